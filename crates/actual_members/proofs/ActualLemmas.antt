@@ -3,7 +3,7 @@ use Rattle.std.proofs.Common.{◌≡◌, ℕ, suc, ◌+◌, Bool, true, List, []
 use Rattle.std.specs.Prelude.{Option, Some, None, if◌then◌else◌}
 use Rattle.std.proofs.lemmas.List.{append-nil}
 use Rattle.type_definitions.specs.TypeFault.{TypeFault, first_fault}
-use Rattle.type_definitions.specs.Presentation.{is_marked}
+use Rattle.type_definitions.specs.Presentation.{is_marked_number}
 use Rattle.type_definitions.specs.Actualisation.{marked_from}
 use Rattle.actual_members.specs.Actuals.{actuals_from, IsActualOf}
 
@@ -28,7 +28,7 @@ looked_none {A = A} all marks actual whole rest made is nothing = record {
 
 -- a member that is not formal, or has its actual one
 fault_gone : {A : Type 0} (one : A → Option TypeFault) (all : List A → Option TypeFault) (marks : List ℕ) (actual : A → ℕ) (i : ℕ) (x : A)
-    (later : List A) (found : Option ℕ) → IsFirstOf one all → IsActualOf (is_marked marks i) (one x) (actual x) found
+    (later : List A) (found : Option ℕ) → IsFirstOf one all → IsActualOf (is_marked_number marks i) (one x) (actual x) found
     → all (marked_from marks (suc i) later) ≡ all (marked_from marks i (x ∷ later))
 fault_gone {A = A} one all marks actual i x later None first is =
     let rest : List A = marked_from marks (suc i) later in
@@ -46,7 +46,7 @@ number_is is_formal fault actual (Some n) is =
 
 pub looked_next : {A : Type 0} (one : A → Option TypeFault) (all : List A → Option TypeFault) (marks : List ℕ) (actual : A → ℕ)
     (whole : List A) (i : ℕ) (rest later : List A) (made new : List (Option ℕ)) (x : A) (found : Option ℕ) → IsFirstOf one all
-    → Looked all marks actual whole i rest made → rest ≡ x ∷ later → IsActualOf (is_marked marks i) (one x) (actual x) found
+    → Looked all marks actual whole i rest made → rest ≡ x ∷ later → IsActualOf (is_marked_number marks i) (one x) (actual x) found
     → new ≡ made ++ found ∷ [] → Looked all marks actual whole (i + 1) later new
 looked_next {A = A} one all marks actual whole i rest later made new x found first looked next is grown =
     let plus : suc i ≡ i + 1 = omega arith in
@@ -58,14 +58,14 @@ looked_next {A = A} one all marks actual whole i rest later made new x found fir
           ap (λ (ns : List (Option ℕ)). ns ++ actuals_from marks actual (suc i) later) grown
           ∙ append_assoc made (found ∷ []) (actuals_from marks actual (suc i) later)
           ∙ ap (λ (o : Option ℕ). made ++ (o ∷ actuals_from marks actual (suc i) later))
-          (number_is (is_marked marks i) (one x) (actual x) found is)
+          (number_is (is_marked_number marks i) (one x) (actual x) found is)
           ∙ ap (λ (xs : List A). made ++ actuals_from marks actual i xs) (sym next) ∙ looked.numbers;
     })
 
 -- a formal member without an actual one
 pub looked_fault : {A : Type 0} (one : A → Option TypeFault) (all : List A → Option TypeFault) (marks : List ℕ) (actual : A → ℕ)
     (whole : List A) (i : ℕ) (rest later : List A) (made : List (Option ℕ)) (x : A) (fault : TypeFault) → IsFirstOf one all
-    → Looked all marks actual whole i rest made → rest ≡ x ∷ later → is_marked marks i ≡ true → one x ≡ Some fault
+    → Looked all marks actual whole i rest made → rest ≡ x ∷ later → is_marked_number marks i ≡ true → one x ≡ Some fault
     → all (marked_from marks 0 whole) ≡ Some fault
 looked_fault {A = A} one all marks actual whole i rest later made x fault first looked next formal found =
     let behind : List A = marked_from marks (suc i) later in

@@ -9,11 +9,11 @@ use Rattle.lotos_base.specs.Equation.{Place}
 use Rattle.sort_terms.specs.WellFormedTest.{all_differ}
 use Rattle.type_presentations.proofs.KeptLemmas.{added_is_there, first_stays}
 use Rattle.type_definitions.specs.TypeFault.{TypeFault, first_fault, too_large}
-use Rattle.type_definitions.specs.Presentation.{first_position, is_marked, presentation_limit, with_new}
+use Rattle.type_definitions.specs.Presentation.{first_position, is_marked_number, presentation_limit, with_new}
 use Rattle.type_definitions.specs.Actualisation.{Actualising, unmarked_from}
 use Rattle.type_definitions.specs.ActualisationFaults.{Coming, coming_clash, coming_too_many, there_already}
 use Rattle.actual_members.specs.Actuals.{actuals_from}
-use Rattle.actual_members.specs.Condensed.{Kind, clashes, images_of, makers_of}
+use Rattle.actual_members.specs.Condensed.{Kind, members_clash, images_of, makers_of}
 use Rattle.actual_members.specs.Noting.{no_makers}
 use Rattle.actual_members.specs.CameView.{Arrived, HasActual, HasImage, HasSettled, are_one_member}
 use Rattle.actual_members.specs.FaultPlaces.{fault_at, kept_place, stands_at}
@@ -47,12 +47,12 @@ at_end s = with_new (are_one_member s.k) s.start (due_images s 0 s.whole)
 abbrev pub numbers_from : {A : Type 0} → Setting A → List A → ℕ → List A → List ℕ
 numbers_from s final i [] = []
 numbers_from s final i (x ∷ xs) =
-    (if is_marked s.marks i then s.actual x else first_position (are_one_member s.k (s.come x).image) final) ∷ numbers_from s final
+    (if is_marked_number s.marks i then s.actual x else first_position (are_one_member s.k (s.come x).image) final) ∷ numbers_from s final
     (suc i) xs
 
 -- the first clash behind earlier members
 abbrev pub clash_behind : {A : Type 0} → Setting A → List (Coming A) → List (Coming A) → Option TypeFault
-clash_behind s earlier xs = coming_clash s.a (clashes s.k) s.clash_kind earlier xs
+clash_behind s earlier xs = coming_clash s.a (members_clash s.k) s.clash_kind earlier xs
 
 -- the first that is too many
 abbrev pub many_behind : {A : Type 0} → Setting A → List A → List (Coming A) → Option TypeFault
@@ -131,9 +131,10 @@ marked false m n e = absurd (none-some m (sym e))
 formal_next : {A : Type 0} (s : Setting A) (st new : Arrived A) (i number : ℕ) (x : A) (later : List A) (actuals more : List (Option ℕ))
     → Arriving s st i (x ∷ later) actuals → actuals ≡ Some number ∷ more → HasActual st new number → Arriving s new (suc i) later more
 formal_next {A = A} s st new i number x later actuals more before next has =
-    let are : Some number ∷ more ≡ (if is_marked s.marks i then Some (s.actual x) else None) ∷ actuals_from s.marks s.actual (suc i) later =
+    let are : Some number ∷ more ≡ (if is_marked_number s.marks i then Some (s.actual x) else None)
+    ∷ actuals_from s.marks s.actual (suc i) later =
     sym next ∙ before.known in
-    let here = marked (is_marked s.marks i) number (s.actual x) (same_heads (Some number) _ more _ are) in
+    let here = marked (is_marked_number s.marks i) number (s.actual x) (same_heads (Some number) _ more _ are) in
     let gone : unmarked_from s.marks i (x ∷ later) ≡ unmarked_from s.marks (suc i) later =
     ap (λ (b : Bool). if b then unmarked_from s.marks (suc i) later else x ∷ unmarked_from s.marks (suc i) later) here.0 in record {
       members =
@@ -175,18 +176,19 @@ formal_next {A = A} s st new i number x later actuals more before next has =
 clash_next : {A : Type 0} (s : Setting A) (st new : Arrived A) (x : Coming A) (rest : List (Coming A)) → IsLawful s.k
     → Clashing s st (x ∷ rest) → HasImage s.k s.a.base.at x st new → Clashing s new rest
 clash_next {A = A} s st new x rest is before has =
-    let asked : new.clash ≡ kept_place st.clash (list_any (clashes s.k x) before.earlier) (stands_at x.pair s.a.base.at) =
+    let asked : new.clash ≡ kept_place st.clash (list_any (members_clash s.k x) before.earlier) (stands_at x.pair s.a.base.at) =
     has.clash
-    ∙ asked_if_none st.clash _ (list_any (clashes s.k x) before.earlier) (stands_at x.pair s.a.base.at)
+    ∙ asked_if_none st.clash _ (list_any (members_clash s.k x) before.earlier) (stands_at x.pair s.a.base.at)
     (λ none. clash_is s.k is before.earlier st (before.condensed none) x new.list has.is_second has.list has.seconds) in record {
       earlier = before.earlier ++ x ∷ [];
       faults =
           before.faults
-          ∙ kept_fault s.a s.clash_kind st.clash (list_any (clashes s.k x) before.earlier) x (clash_behind s
+          ∙ kept_fault s.a s.clash_kind st.clash (list_any (members_clash s.k x) before.earlier) x (clash_behind s
           (before.earlier ++ x ∷ []) rest)
           ∙ ap (λ o. first_fault (fault_at s.clash_kind o) (clash_behind s (before.earlier ++ x ∷ []) rest)) (sym asked);
       condensed = λ none.
-          let parts = none_kept st.clash (list_any (clashes s.k x) before.earlier) (stands_at x.pair s.a.base.at) (sym asked ∙ none) in
+          let parts =
+          none_kept st.clash (list_any (members_clash s.k x) before.earlier) (stands_at x.pair s.a.base.at) (sym asked ∙ none) in
           let c = before.condensed parts.0 in
           let told = clash_is s.k is before.earlier st c x new.list has.is_second has.list has.seconds in
           condensed_next s.k is before.earlier st new c x has.is_second has.list has.makers has.seconds
@@ -202,9 +204,9 @@ other_next : {A : Type 0} (s : Setting A) (st new : Arrived A) (i : ℕ) (x : A)
     → IsLawful s.k → Arriving s st i (x ∷ later) actuals → actuals ≡ None ∷ more → HasImage s.k s.a.base.at (s.come x) st new
     → Arriving s new (suc i) later more
 other_next {A = A} s st new i x later actuals more is before next has =
-    let are : None ∷ more ≡ (if is_marked s.marks i then Some (s.actual x) else None) ∷ actuals_from s.marks s.actual (suc i) later =
+    let are : None ∷ more ≡ (if is_marked_number s.marks i then Some (s.actual x) else None) ∷ actuals_from s.marks s.actual (suc i) later =
     sym next ∙ before.known in
-    let here = unmarked (is_marked s.marks i) (s.actual x) (same_heads None _ more _ are) in
+    let here = unmarked (is_marked_number s.marks i) (s.actual x) (same_heads None _ more _ are) in
     let stays : unmarked_from s.marks i (x ∷ later) ≡ x ∷ unmarked_from s.marks (suc i) later =
     ap (λ (b : Bool). if b then unmarked_from s.marks (suc i) later else x ∷ unmarked_from s.marks (suc i) later) here in
     let same : A → A → Bool = are_one_member s.k in
@@ -284,7 +286,7 @@ ends {A = A} s st i rest actuals before none =
 -- the new number of each
 pub number_at : {A : Type 0} (s : Setting A) (final : List A) (becomes : ℕ → Option A → ℕ) → ((n : ℕ) → becomes n None ≡ 0)
     → ((n : ℕ) (x : A)
-    → becomes n (Some x) ≡ (if is_marked s.marks n then s.actual x else first_position (are_one_member s.k (s.come x).image) final))
+    → becomes n (Some x) ≡ (if is_marked_number s.marks n then s.actual x else first_position (are_one_member s.k (s.come x).image) final))
     → (i : ℕ) (xs : List A) (n : ℕ) → slice_index (numbers_from s final i xs) n ≡ becomes (i + n) (slice_get xs n)
 number_at s final becomes none some i [] n = sym (none (i + n))
 number_at s final becomes none some i (x ∷ xs) zero =

@@ -16,8 +16,8 @@ use Rattle.type_presentations.proofs.AddedLemmas.{Keying, by_name, by_profile}
 use Rattle.type_presentations.proofs.KeyedLemmas.{mutual_by_key}
 use Rattle.type_definitions.specs.Presentation.{first_position, is_same_place, with_new}
 use Rattle.type_definitions.specs.ActualisationFaults.{Coming, made_by_two}
-use Rattle.actual_members.specs.Condensed.{Kind, clashes, absorbed, first_pair, images_of, makers_of, pair_at, place_of_pair, sort_kind, operation_kind}
-use Rattle.actual_members.specs.Noting.{first_place, maker_at, noted, two_makers}
+use Rattle.actual_members.specs.Condensed.{Kind, members_clash, absorbed, first_pair, images_of, makers_of, pair_at, place_of_pair, sort_kind, operation_kind}
+use Rattle.actual_members.specs.Noting.{first_place, maker_at, maker_noted, two_makers}
 use Rattle.actual_members.specs.CondensedLaws.{TellsClashes}
 
 -- ---- Tests.
@@ -87,8 +87,8 @@ made_by_either k is (Some r) (Some q) (Some p) apart =
 
 -- an entry that takes the pair of the member
 clash_of_entry : {A : Type 0} (k : Kind A) → IsKind k → (z c x : Coming A) → (k.one x.image c.image && k.origin x.image c.image) ≡ true
-    → clashes k x c ≡ false
-    → clashes k z (record { image = c.image; pair = first_pair c.pair x.pair }) ≡ (clashes k z c || clashes k z x)
+    → members_clash k x c ≡ false
+    → members_clash k z (record { image = c.image; pair = first_pair c.pair x.pair }) ≡ (members_clash k z c || members_clash k z x)
 clash_of_entry {A = A} k is z c x same apart =
     let parts = and_parts (k.one x.image c.image) (k.origin x.image c.image) same in
     let one : k.one z.image x.image ≡ k.one z.image c.image = is.ones_alike x.image c.image z.image parts.0 in
@@ -99,8 +99,8 @@ clash_of_entry {A = A} k is z c x same apart =
     ∙ apart in
     joined (k.one z.image c.image) (k.origin z.image c.image) (made_by_two z.pair c.pair) (made_by_two z.pair x.pair)
     (made_by_two z.pair (first_pair c.pair x.pair)) (made_by_either k is z.pair c.pair x.pair alone)
-    ∙ ap (λ (b : Bool). clashes k z c || (b && (not (k.origin z.image c.image) || made_by_two z.pair x.pair))) (sym one)
-    ∙ ap (λ (b : Bool). clashes k z c || (k.one z.image x.image && (not b || made_by_two z.pair x.pair))) (sym origin)
+    ∙ ap (λ (b : Bool). members_clash k z c || (b && (not (k.origin z.image c.image) || made_by_two z.pair x.pair))) (sym one)
+    ∙ ap (λ (b : Bool). members_clash k z c || (k.one z.image x.image && (not b || made_by_two z.pair x.pair))) (sym origin)
   where
     joined : (o g m n b : Bool) → b ≡ (m || n) → (o && (not g || b)) ≡ ((o && (not g || m)) || (o && (not g || n)))
     joined false g m n b e = refl
@@ -108,48 +108,49 @@ clash_of_entry {A = A} k is z c x same apart =
     joined true true m n b e = e
 
 pub clashes_with_absorbed : {A : Type 0} (k : Kind A) → IsKind k → (cs : List (Coming A)) (z x : Coming A)
-    → list_any (clashes k x) cs ≡ false → list_any (clashes k z) (absorbed k cs x) ≡ (list_any (clashes k z) cs || clashes k z x)
-clashes_with_absorbed k is [] z x apart = last (clashes k z x)
+    → list_any (members_clash k x) cs ≡ false → list_any (members_clash k z) (absorbed k cs x)
+    ≡ (list_any (members_clash k z) cs || members_clash k z x)
+clashes_with_absorbed k is [] z x apart = last (members_clash k z x)
   where
     last : (a : Bool) → (a || false) ≡ a
     last true = refl
     last false = refl
 clashes_with_absorbed {A = A} k is (c ∷ cs) z x apart =
-    let parts = or_parts (clashes k x c) (list_any (clashes k x) cs) apart in
+    let parts = or_parts (members_clash k x c) (list_any (members_clash k x) cs) apart in
     go (k.one x.image c.image && k.origin x.image c.image) refl parts.0 (clashes_with_absorbed k is cs z x parts.1)
   where
-    go : (b : Bool) → (k.one x.image c.image && k.origin x.image c.image) ≡ b → clashes k x c ≡ false
-        → list_any (clashes k z) (absorbed k cs x) ≡ (list_any (clashes k z) cs || clashes k z x)
-        → list_any (clashes k z) (if b then record { image = c.image; pair = first_pair c.pair x.pair } ∷ cs else c ∷ absorbed k cs x)
-        ≡ ((clashes k z c || list_any (clashes k z) cs) || clashes k z x)
+    go : (b : Bool) → (k.one x.image c.image && k.origin x.image c.image) ≡ b → members_clash k x c ≡ false
+        → list_any (members_clash k z) (absorbed k cs x) ≡ (list_any (members_clash k z) cs || members_clash k z x)
+        → list_any (members_clash k z) (if b then record { image = c.image; pair = first_pair c.pair x.pair } ∷ cs else c ∷ absorbed k cs x)
+        ≡ ((members_clash k z c || list_any (members_clash k z) cs) || members_clash k z x)
     go true same other rest =
-        ap (λ (b : Bool). b || list_any (clashes k z) cs) (clash_of_entry k is z c x same other)
-        ∙ turned_round (clashes k z c) (list_any (clashes k z) cs) (clashes k z x)
+        ap (λ (b : Bool). b || list_any (members_clash k z) cs) (clash_of_entry k is z c x same other)
+        ∙ turned_round (members_clash k z c) (list_any (members_clash k z) cs) (members_clash k z x)
     go false same other rest =
-        ap (λ (b : Bool). clashes k z c || b) rest
-        ∙ sym (or_assoc (clashes k z c) (list_any (clashes k z) cs) (clashes k z x))
+        ap (λ (b : Bool). members_clash k z c || b) rest
+        ∙ sym (or_assoc (members_clash k z c) (list_any (members_clash k z) cs) (members_clash k z x))
 
 -- ---- What the code tests.
 
 -- none of the rest is one with the member
 pub none_is_one : {A : Type 0} (k : Kind A) (cs : List (Coming A)) (x : Coming A) → list_any (k.one x.image) (images_of cs) ≡ false
-    → list_any (clashes k x) cs ≡ false
+    → list_any (members_clash k x) cs ≡ false
 none_is_one k [] x none = refl
 none_is_one k (c ∷ cs) x none =
     let parts = or_parts (k.one x.image c.image) (list_any (k.one x.image) (images_of cs)) none in
-    ap (λ (b : Bool). (b && (not (k.origin x.image c.image) || made_by_two x.pair c.pair)) || list_any (clashes k x) cs) parts.0
+    ap (λ (b : Bool). (b && (not (k.origin x.image c.image) || made_by_two x.pair c.pair)) || list_any (members_clash k x) cs) parts.0
     ∙ none_is_one k cs x parts.1
 
 -- a new one clashes where one of its name is there
 pub clash_of_new : {A : Type 0} (k : Kind A) (cs : List (Coming A)) (x : Coming A)
     → list_any (λ (d : A). k.one x.image d && k.origin x.image d) (images_of cs) ≡ false
-    → list_any (clashes k x) cs ≡ list_any (k.one x.image) (images_of cs)
+    → list_any (members_clash k x) cs ≡ list_any (k.one x.image) (images_of cs)
 clash_of_new k [] x new = refl
 clash_of_new {A = A} k (c ∷ cs) x new =
     let parts =
     or_parts (k.one x.image c.image && k.origin x.image c.image)
     (list_any (λ (d : A). k.one x.image d && k.origin x.image d) (images_of cs)) new in
-    ap (λ (b : Bool). b || list_any (clashes k x) cs)
+    ap (λ (b : Bool). b || list_any (members_clash k x) cs)
     (alone (k.one x.image c.image) (k.origin x.image c.image) (made_by_two x.pair c.pair) parts.0)
     ∙ ap (λ (b : Bool). k.one x.image c.image || b) (clash_of_new k cs x parts.1)
   where
@@ -162,7 +163,7 @@ clash_of_new {A = A} k (c ∷ cs) x new =
 pub clash_of_old : {A : Type 0} (k : Kind A) → IsKind k → (cs : List (Coming A)) (x : Coming A)
     → all_differ k.one (images_of cs) ≡ true
     → list_any (λ (d : A). k.one x.image d && k.origin x.image d) (images_of cs) ≡ true
-    → list_any (clashes k x) cs ≡ made_by_two x.pair (pair_at k cs x.image)
+    → list_any (members_clash k x) cs ≡ made_by_two x.pair (pair_at k cs x.image)
 clash_of_old k is [] x apart there = let h : false ≡ true = there in cc
 clash_of_old {A = A} k is (c ∷ cs) x apart there =
     let parts = and_parts (not (list_any (k.one c.image) (images_of cs))) (all_differ k.one (images_of cs)) apart in
@@ -205,13 +206,13 @@ clash_of_old {A = A} k is (c ∷ cs) x apart there =
         → (b || list_any (λ (d : A). k.one x.image d && k.origin x.image d) (images_of cs)) ≡ true
         → not (list_any (k.one c.image) (images_of cs)) ≡ true
         → (list_any (λ (d : A). k.one x.image d && k.origin x.image d) (images_of cs) ≡ true
-        → list_any (clashes k x) cs ≡ made_by_two x.pair (pair_at k cs x.image))
-        → (clashes k x c || list_any (clashes k x) cs) ≡ made_by_two x.pair (if b then c.pair else pair_at k cs x.image)
+        → list_any (members_clash k x) cs ≡ made_by_two x.pair (pair_at k cs x.image))
+        → (members_clash k x c || list_any (members_clash k x) cs) ≡ made_by_two x.pair (if b then c.pair else pair_at k cs x.image)
     go true same some front rest =
         let both = and_parts (k.one x.image c.image) (k.origin x.image c.image) same in
         let none : list_any (k.one x.image) (images_of cs) ≡ false =
         alike cs both.0 ∙ not_true (list_any (k.one c.image) (images_of cs)) front in
-        ap (λ (b : Bool). clashes k x c || b) (none_is_one k cs x none)
+        ap (λ (b : Bool). members_clash k x c || b) (none_is_one k cs x none)
         ∙ alone (k.one x.image c.image) (k.origin x.image c.image) (made_by_two x.pair c.pair) both.0 both.1
       where
         alone : (o g m : Bool) → o ≡ true → g ≡ true → ((o && (not g || m)) || false) ≡ m
@@ -222,7 +223,7 @@ clash_of_old {A = A} k is (c ∷ cs) x apart there =
     go false same some front rest =
         let not_one : k.one x.image c.image ≡ false =
         other (k.one x.image c.image) refl (not_true (list_any (k.one c.image) (images_of cs)) front) (weaker cs some) in
-        ap (λ (b : Bool). (b && (not (k.origin x.image c.image) || made_by_two x.pair c.pair)) || list_any (clashes k x) cs) not_one
+        ap (λ (b : Bool). (b && (not (k.origin x.image c.image) || made_by_two x.pair c.pair)) || list_any (members_clash k x) cs) not_one
         ∙ rest some
 
 -- ---- Makers by number.
@@ -233,15 +234,16 @@ first_places (Some p) q = refl
 
 makers_noted : {A : Type 0} (k : Kind A) (cs : List (Coming A)) (x : Coming A)
     → makers_of (absorbed k cs x)
-    ≡ noted (makers_of cs) (first_position (λ (d : A). k.one x.image d && k.origin x.image d) (images_of cs)) (place_of_pair x.pair)
+    ≡ maker_noted (makers_of cs) (first_position (λ (d : A). k.one x.image d && k.origin x.image d) (images_of cs)) (place_of_pair x.pair)
 makers_noted k [] x = refl
 makers_noted {A = A} k (c ∷ cs) x = go (k.one x.image c.image && k.origin x.image c.image) (makers_noted k cs x)
   where
     go : (b : Bool)
         → makers_of (absorbed k cs x)
-        ≡ noted (makers_of cs) (first_position (λ (d : A). k.one x.image d && k.origin x.image d) (images_of cs)) (place_of_pair x.pair)
+        ≡ maker_noted (makers_of cs) (first_position (λ (d : A). k.one x.image d && k.origin x.image d) (images_of cs))
+        (place_of_pair x.pair)
         → makers_of (if b then record { image = c.image; pair = first_pair c.pair x.pair } ∷ cs else c ∷ absorbed k cs x)
-        ≡ noted (place_of_pair c.pair ∷ makers_of cs)
+        ≡ maker_noted (place_of_pair c.pair ∷ makers_of cs)
         (if b then 0 else suc (first_position (λ (d : A). k.one x.image d && k.origin x.image d) (images_of cs)))
         (place_of_pair x.pair)
     go true rest = ap (λ (p : Option Place). p ∷ makers_of cs) (first_places c.pair x.pair)

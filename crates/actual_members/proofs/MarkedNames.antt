@@ -5,18 +5,18 @@ use Rattle.std.proofs.lemmas.List.{append-nil, map-append, length-map, length-ap
 use Rattle.type_definitions.proofs.WalkLemmas.{so_far}
 use Rattle.type_presentations.specs.NamesView.{HasNames}
 use Rattle.type_presentations.specs.declared.names.NamePositions.{NamePositions}
-use Rattle.type_definitions.specs.Presentation.{is_marked, presentation_limit}
+use Rattle.type_definitions.specs.Presentation.{is_marked_number, presentation_limit}
 use Rattle.type_definitions.specs.Actualisation.{marked_from}
 use Rattle.type_definitions.proofs.FaultLemmas.{few_members}
 
 marked_last : {A : Type 0} (marks : List ℕ) (k : ℕ) (xs : List A) (x : A)
-    → marked_from marks k (xs ++ x ∷ []) ≡ marked_from marks k xs ++ (if is_marked marks (k + length xs) then x ∷ [] else [])
+    → marked_from marks k (xs ++ x ∷ []) ≡ marked_from marks k xs ++ (if is_marked_number marks (k + length xs) then x ∷ [] else [])
 marked_last {A = A} marks k [] x =
-    let at : k ≡ k + 0 = omega arith in ap (λ (n : ℕ). if is_marked marks n then x ∷ [] else []) at
-marked_last {A = A} marks k (y ∷ ys) x = go (is_marked marks k) (marked_last marks (suc k) ys x)
+    let at : k ≡ k + 0 = omega arith in ap (λ (n : ℕ). if is_marked_number marks n then x ∷ [] else []) at
+marked_last {A = A} marks k (y ∷ ys) x = go (is_marked_number marks k) (marked_last marks (suc k) ys x)
   where
     last : ℕ → List A
-    last n = if is_marked marks n then x ∷ [] else []
+    last n = if is_marked_number marks n then x ∷ [] else []
 
     at : suc k + length ys ≡ k + suc (length ys)
     at = omega arith
@@ -31,16 +31,16 @@ marked_last {A = A} marks k (y ∷ ys) x = go (is_marked marks k) (marked_last m
 -- those that have come, and the next one
 marked_next : {A B : Type 0} (f : A → B) (marks : List ℕ) (xs : List A) (i : ℕ) (x : A) → i < length xs → x ≡ get_or xs i x
     → marked_from marks 0 (map f (take (i + 1) xs)) ≡ marked_from marks 0 (map f (take i xs))
-    ++ (if is_marked marks i then f x ∷ [] else [])
+    ++ (if is_marked_number marks i then f x ∷ [] else [])
 marked_next {B = B} f marks xs i x within is =
     let many : i ≤ length xs = omega (arith, within) in
     let at : 0 + length (map f (take i xs)) ≡ i =
     omega (arith, length-map (take i xs) f, length-take-le i xs many) in
     ap (λ (ys : List B). marked_from marks 0 ys) (so_far f xs i x within is) ∙ marked_last marks 0 (map f (take i xs)) (f x)
-    ∙ ap (λ (n : ℕ). marked_from marks 0 (map f (take i xs)) ++ (if is_marked marks n then f x ∷ [] else [])) at
+    ∙ ap (λ (n : ℕ). marked_from marks 0 (map f (take i xs)) ++ (if is_marked_number marks n then f x ∷ [] else [])) at
 
 pub name_next : {A B : Type 0} (f : A → B) (name_of : B → List ℕ) (marks : List ℕ) (xs : List A) (i : ℕ) (x : A) (name : List ℕ)
-    → i < length xs → x ≡ get_or xs i x → is_marked marks i ≡ true → name ≡ name_of (f x)
+    → i < length xs → x ≡ get_or xs i x → is_marked_number marks i ≡ true → name ≡ name_of (f x)
     → map name_of (marked_from marks 0 (map f (take i xs))) ++ name ∷ [] ≡ map name_of (marked_from marks 0 (map f (take (i + 1) xs)))
 name_next {B = B} f name_of marks xs i x name within is formal named =
     ap (λ (n : List ℕ). map name_of (marked_from marks 0 (map f (take i xs))) ++ n ∷ []) named
@@ -49,7 +49,7 @@ name_next {B = B} f name_of marks xs i x name within is formal named =
     ∙ ap (λ (ys : List B). map name_of ys) (sym (marked_next f marks xs i x within is))
 
 pub no_name_next : {A B : Type 0} (f : A → B) (name_of : B → List ℕ) (marks : List ℕ) (xs : List A) (i : ℕ) (x : A)
-    → i < length xs → x ≡ get_or xs i x → is_marked marks i ≡ false
+    → i < length xs → x ≡ get_or xs i x → is_marked_number marks i ≡ false
     → map name_of (marked_from marks 0 (map f (take i xs))) ≡ map name_of (marked_from marks 0 (map f (take (i + 1) xs)))
 no_name_next {B = B} f name_of marks xs i x within is other =
     ap (λ (ys : List B). map name_of ys)
@@ -57,16 +57,10 @@ no_name_next {B = B} f name_of marks xs i x within is other =
     ∙ ap (λ (b : Bool). marked_from marks 0 (map f (take i xs)) ++ (if b then f x ∷ [] else [])) (sym other)
     ∙ sym (marked_next f marks xs i x within is))
 
--- one more
-pub count_next : {A : Type 0} (ys : List A) (y : A) (zs : List A) (count : ℕ) → length ys ≡ count → ys ++ y ∷ [] ≡ zs
-    → length zs ≡ count + 1
-count_next {A = A} ys y zs count many is =
-    ap (λ (xs : List A). length xs) (sym is) ∙ length-append ys (y ∷ []) ∙ ap (λ (n : ℕ). n + 1) many
-
 -- there are no more marked ones than members
 pub marked_few : {A : Type 0} (marks : List ℕ) (k : ℕ) (xs : List A) → length (marked_from marks k xs) ≤ length xs
 marked_few marks k [] = omega arith
-marked_few {A = A} marks k (x ∷ xs) = go (is_marked marks k) (marked_few marks (suc k) xs)
+marked_few {A = A} marks k (x ∷ xs) = go (is_marked_number marks k) (marked_few marks (suc k) xs)
   where
     go : (b : Bool) → length (marked_from marks (suc k) xs) ≤ length xs
         → length (if b then x ∷ marked_from marks (suc k) xs else marked_from marks (suc k) xs) ≤ suc (length xs)
@@ -93,7 +87,7 @@ no_name old given name is_formal count other many has =
 
 -- the next member has come
 pub names_next : {A B : Type 0} (f : A → B) (name_of : B → List ℕ) (marks : List ℕ) (xs : List A) (i : ℕ) (x : A) (name : List ℕ)
-    (is_formal : Bool) (positions : NamePositions) (many : ℕ) → i < length xs → x ≡ get_or xs i x → is_formal ≡ is_marked marks i
+    (is_formal : Bool) (positions : NamePositions) (many : ℕ) → i < length xs → x ≡ get_or xs i x → is_formal ≡ is_marked_number marks i
     → name ≡ name_of (f x)
     → AreNames positions
     (if is_formal then map name_of (marked_from marks 0 (map f (take i xs))) ++ name ∷ []
@@ -104,7 +98,7 @@ names_next f name_of marks xs i x name is_formal positions many within is formal
     old : List (List ℕ)
     old = map name_of (marked_from marks 0 (map f (take i xs)))
 
-    go : (b : Bool) → b ≡ is_marked marks i → AreNames positions (if b then old ++ name ∷ [] else old) many
+    go : (b : Bool) → b ≡ is_marked_number marks i → AreNames positions (if b then old ++ name ∷ [] else old) many
         → AreNames positions (map name_of (marked_from marks 0 (map f (take (i + 1) xs)))) many
     go true told so =
         subst (λ (ns : List (List ℕ)). AreNames positions ns many)

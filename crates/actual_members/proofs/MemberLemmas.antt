@@ -22,12 +22,12 @@ use Rattle.type_presentations.proofs.NameLemmas.{any_mapped}
 use Rattle.type_definitions.specs.TypeFault.{double_operation, double_sort}
 use Rattle.type_definitions.specs.Presentation.{first_position, presentation_limit, with_new}
 use Rattle.type_definitions.specs.Renaming.{operation_under, pair_for, sort_under}
-use Rattle.type_definitions.specs.Actualisation.{Actualising, actual_operation, actual_sort, actualised_operations, actualised_sort, actualised_sorts, formal_operations_of, formal_sorts_of, operation_becomes, operation_renamer, sort_becomes, sort_renamer, unless}
+use Rattle.type_definitions.specs.Actualisation.{Actualising, actual_operation, actual_sort, actualised_operations, actualised_sort, actualised_sorts, formal_operations_of, formal_sorts_of, operation_becomes, operation_renamer, sort_becomes, sort_renamer, pair_unless}
 use Rattle.type_definitions.specs.ActualisationFaults.{Coming}
 use Rattle.type_definitions.specs.Images.{operation_image}
 use Rattle.type_definitions.specs.ProfiledImage.{number_in}
 use Rattle.actual_members.specs.Condensed.{Kind, operation_kind, place_of_pair, sort_kind}
-use Rattle.actual_members.specs.Noting.{maker_at, no_makers, noted, two_makers}
+use Rattle.actual_members.specs.Noting.{maker_at, no_makers, maker_noted, two_makers}
 use Rattle.actual_members.proofs.CondensedLemmas.{operations_are_a_kind, sorts_are_a_kind, tells}
 use Rattle.actual_members.specs.Brought.{OperationsCame, SortsCame}
 use Rattle.actual_members.specs.CameView.{Arrived, HasActual, HasImage, HasSettled, IsFresh, are_one_member}
@@ -113,7 +113,7 @@ operations_came a came all = record {
 pub has_image : {A : Type 0} (k : Kind A) (mention : PlacedName) (x : Coming A) (old new : Arrived A) (number : ℕ)
     (is_second is_too_many : Bool) → new.list ≡ with_new (are_one_member k) old.list (x.image ∷ [])
     → number ≡ first_position (are_one_member k x.image) new.list → new.numbers ≡ old.numbers ++ number ∷ []
-    → new.makers ≡ noted old.makers number (place_of_pair x.pair)
+    → new.makers ≡ maker_noted old.makers number (place_of_pair x.pair)
     → all_differ k.one new.list ≡ (not is_second && all_differ k.one old.list)
     → new.clash
     ≡ kept_place old.clash (is_second || two_makers (place_of_pair x.pair) (maker_at old.makers number)) (stands_at x.pair mention)
@@ -122,7 +122,7 @@ pub has_image : {A : Type 0} (k : Kind A) (mention : PlacedName) (x : Coming A) 
 has_image k mention x old new number is_second is_too_many added is numbered made seconds clash past many = record {
   list = added;
   numbers = numbered ∙ ap (λ (n : ℕ). old.numbers ++ n ∷ []) is;
-  makers = made ∙ ap (λ (n : ℕ). noted old.makers n (place_of_pair x.pair)) is;
+  makers = made ∙ ap (λ (n : ℕ). maker_noted old.makers n (place_of_pair x.pair)) is;
   is_second = is_second;
   seconds = seconds;
   clash =
@@ -136,16 +136,16 @@ has_image k mention x old new number is_second is_too_many added is numbered mad
 -- the pair is the one that renames what has this name
 abbrev pub IsRenamer : Source → List ℕ → Option WrittenPair → Type 0
 IsRenamer source name pair = (names : List (List ℕ)) → HasNames source.formals.now names
-    → pair ≡ unless (list_any (λ (n : List ℕ). one_name n name) names) (pair_for (pairs_in source.pairs.now) name)
+    → pair ≡ pair_unless (list_any (λ (n : List ℕ). one_name n name) names) (pair_for (pairs_in source.pairs.now) name)
 
 renamer_is : {A : Type 0} (name_of : A → List ℕ) (formals : List A) (pairs : List WrittenPair) (source : Source) (name : List ℕ)
     (pair : Option WrittenPair) → IsRenamer source name pair → HasNames source.formals.now (map name_of formals)
     → pairs ≡ pairs_in source.pairs.now
-    → pair ≡ unless (list_any (λ (x : A). one_name (name_of x) name) formals) (pair_for pairs name)
+    → pair ≡ pair_unless (list_any (λ (x : A). one_name (name_of x) name) formals) (pair_for pairs name)
 renamer_is name_of formals pairs source name pair is named are =
     is (map name_of formals) named
-    ∙ ap (λ (b : Bool). unless b (pair_for (pairs_in source.pairs.now) name)) (any_mapped name_of name formals)
-    ∙ ap (λ (ps : List WrittenPair). unless (list_any (λ x. one_name (name_of x) name) formals) (pair_for ps name)) (sym are)
+    ∙ ap (λ (b : Bool). pair_unless b (pair_for (pairs_in source.pairs.now) name)) (any_mapped name_of name formals)
+    ∙ ap (λ (ps : List WrittenPair). pair_unless (list_any (λ x. one_name (name_of x) name) formals) (pair_for ps name)) (sym are)
 
 abbrev coming : {A : Type 0} → A → Option WrittenPair → Coming A
 coming image pair = record { image = image; pair = pair }

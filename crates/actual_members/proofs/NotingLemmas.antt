@@ -3,12 +3,12 @@ use Rattle.std.proofs.Common.{◌≡◌, ℕ, zero, suc, ◌<◌, ◌≤◌, fal
 use Rattle.std.specs.Prelude.{Option, Some, None}
 use Rattle.std.proofs.lemmas.List.{length-map, map-append}
 use Rattle.lotos_base.specs.Equation.{Place}
-use Rattle.actual_members.specs.Noting.{first_place, maker_at, no_makers, noted, two_makers}
+use Rattle.actual_members.specs.Noting.{first_place, maker_at, no_makers, maker_noted, two_makers}
 
 -- one that is there
 pub noted_there : {A : Type 0} (seen : A → Option Place) (xs : List A) (n : ℕ) (before maker new : A) → n < length xs
     → before ≡ get_or xs n before → seen new ≡ first_place (seen before) (seen maker)
-    → map seen (set xs n new) ≡ noted (map seen xs) n (seen maker)
+    → map seen (set xs n new) ≡ maker_noted (map seen xs) n (seen maker)
 noted_there seen [] n before maker new within is first = absurd (omega (arith, within))
 noted_there {A = A} seen (x ∷ xs) zero before maker new within is first =
     ap (λ (p : Option Place). p ∷ map seen xs) (first ∙ ap (λ (y : A). first_place (seen y) (seen maker)) is)
@@ -22,13 +22,13 @@ maker_there seen (x ∷ xs) zero before within is = ap seen is
 maker_there seen (x ∷ xs) (suc n) before within is = maker_there seen xs n before (omega (arith, within)) is
 
 -- a new one
-at_end : (ps : List (Option Place)) (n : ℕ) (maker : Option Place) → n ≡ length ps → noted ps n maker ≡ ps ++ maker ∷ []
+at_end : (ps : List (Option Place)) (n : ℕ) (maker : Option Place) → n ≡ length ps → maker_noted ps n maker ≡ ps ++ maker ∷ []
 at_end [] n maker is = refl
 at_end (p ∷ ps) zero maker is = absurd (omega (arith, is))
 at_end (p ∷ ps) (suc n) maker is = ap (λ (qs : List (Option Place)). p ∷ qs) (at_end ps n maker (omega (arith, is)))
 
 pub noted_new : {A : Type 0} (seen : A → Option Place) (xs more : List A) (n : ℕ) (maker : A) → length xs ≤ n
-    → n ≤ length (map seen xs) → more ≡ xs ++ maker ∷ [] → map seen more ≡ noted (map seen xs) n (seen maker)
+    → n ≤ length (map seen xs) → more ≡ xs ++ maker ∷ [] → map seen more ≡ maker_noted (map seen xs) n (seen maker)
 noted_new {A = A} seen xs more n maker past within is =
     let long : length (map seen xs) ≡ length xs = length-map xs seen in
     let at : n ≡ length (map seen xs) = omega (arith, long, past, within) in

@@ -15,9 +15,9 @@ use Rattle.type_definitions.specs.Presentation.{first_position, with_new}
 use Rattle.type_definitions.specs.Actualisation.{Actualising}
 use Rattle.type_definitions.specs.ActualisationFaults.{Coming, at_pair, coming_at, made_by_two}
 use Rattle.type_definitions.proofs.WithNewLemmas.{position_within}
-use Rattle.actual_members.specs.Condensed.{Kind, absorbed, clashes, images_of, makers_of, pair_at, place_of_pair}
+use Rattle.actual_members.specs.Condensed.{Kind, absorbed, members_clash, images_of, makers_of, pair_at, place_of_pair}
 use Rattle.actual_members.specs.CondensedLaws.{TellsClashes}
-use Rattle.actual_members.specs.Noting.{maker_at, noted, two_makers}
+use Rattle.actual_members.specs.Noting.{maker_at, maker_noted, two_makers}
 use Rattle.actual_members.specs.CameView.{Arrived, are_one_member}
 use Rattle.actual_members.specs.FaultPlaces.{fault_at, kept_place, stands_at}
 
@@ -84,7 +84,7 @@ pub record IsLawful {A : Type 0} (k : Kind A) : Type 0 where
 -- what came so far, condensed to the members that are there, no two of which clash
 pub record Condensed {A : Type 0} (k : Kind A) (earlier : List (Coming A)) (st : Arrived A) : Type 0 where
   pub members : List (Coming A)
-  pub told : (z : Coming A) → list_any (clashes k z) earlier ≡ list_any (clashes k z) members
+  pub told : (z : Coming A) → list_any (members_clash k z) earlier ≡ list_any (members_clash k z) members
   pub images : images_of members ≡ st.list
   pub makers : makers_of members ≡ st.makers
   pub differ : all_differ k.one st.list ≡ true
@@ -126,7 +126,7 @@ pub clash_is : {A : Type 0} (k : Kind A) → IsLawful k → (earlier : List (Com
     → (x : Coming A) (after : List A) (is_second : Bool) → after ≡ with_new (are_one_member k) st.list (x.image ∷ [])
     → all_differ k.one after ≡ (not is_second && all_differ k.one st.list)
     → (is_second || two_makers (place_of_pair x.pair) (maker_at st.makers (first_position (are_one_member k x.image) after)))
-    ≡ list_any (clashes k x) earlier
+    ≡ list_any (members_clash k x) earlier
 clash_is {A = A} k is earlier st c x after is_second added seconds =
     ap (λ (b : Bool). is_second || b) (two_is k is earlier st c x after added)
     ∙ go (list_any (are_one_member k x.image) st.list) refl ∙ sym (c.told x)
@@ -141,7 +141,7 @@ clash_is {A = A} k is earlier st c x after is_second added seconds =
     is_not_second = sym (seconds ∙ ap (λ (b : Bool). not is_second && b) c.differ ∙ and_true (not is_second))
 
     go : (b : Bool) → list_any (are_one_member k x.image) st.list ≡ b
-        → (is_second || made_by_two x.pair (pair_at k c.members x.image)) ≡ list_any (clashes k x) c.members
+        → (is_second || made_by_two x.pair (pair_at k c.members x.image)) ≡ list_any (members_clash k x) c.members
     go true told =
         let first : is_second ≡ false =
         not_inj is_second false (is_not_second ∙ ap (λ (ys : List A). all_differ k.one ys) (grown true told) ∙ c.differ) in
@@ -161,9 +161,9 @@ clash_is {A = A} k is earlier st c x after is_second added seconds =
 -- one that clashes with none is condensed with what came
 pub condensed_next : {A : Type 0} (k : Kind A) → IsLawful k → (earlier : List (Coming A)) (st new : Arrived A) → Condensed k earlier st
     → (x : Coming A) (is_second : Bool) → new.list ≡ with_new (are_one_member k) st.list (x.image ∷ [])
-    → new.makers ≡ noted st.makers (first_position (are_one_member k x.image) new.list) (place_of_pair x.pair)
+    → new.makers ≡ maker_noted st.makers (first_position (are_one_member k x.image) new.list) (place_of_pair x.pair)
     → all_differ k.one new.list ≡ (not is_second && all_differ k.one st.list) → is_second ≡ false
-    → list_any (clashes k x) earlier ≡ false → Condensed k (earlier ++ x ∷ []) new
+    → list_any (members_clash k x) earlier ≡ false → Condensed k (earlier ++ x ∷ []) new
 condensed_next {A = A} k is earlier st new c x is_second added made seconds first none =
     let number : first_position (are_one_member k x.image) new.list ≡ first_position (are_one_member k x.image) (images_of c.members) =
     ap (λ (ys : List A). first_position (are_one_member k x.image) ys) added
@@ -171,29 +171,30 @@ condensed_next {A = A} k is earlier st new c x is_second added made seconds firs
     ∙ ap (λ (ys : List A). first_position (are_one_member k x.image) ys) (sym c.images) in record {
       members = absorbed k c.members x;
       told = λ z.
-          list_any-append (clashes k z) earlier (x ∷ []) ∙ ap (λ (b : Bool). list_any (clashes k z) earlier || b) (or-false (clashes k z x))
-          ∙ ap (λ (b : Bool). b || clashes k z x) (c.told z)
+          list_any-append (members_clash k z) earlier (x ∷ [])
+          ∙ ap (λ (b : Bool). list_any (members_clash k z) earlier || b) (or-false (members_clash k z x))
+          ∙ ap (λ (b : Bool). b || members_clash k z x) (c.told z)
           ∙ sym (is.tells.clashes_stay c.members z x (sym (c.told x) ∙ none));
       images =
           is.tells.images c.members x ∙ ap (λ (ys : List A). with_new (are_one_member k) ys (x.image ∷ [])) c.images ∙ sym added;
       makers =
           is.tells.makers c.members x
-          ∙ ap (λ (ps : List (Option Place)). noted ps (first_position (are_one_member k x.image) (images_of c.members))
+          ∙ ap (λ (ps : List (Option Place)). maker_noted ps (first_position (are_one_member k x.image) (images_of c.members))
           (place_of_pair x.pair))
           c.makers
-          ∙ ap (λ (n : ℕ). noted st.makers n (place_of_pair x.pair)) (sym number) ∙ sym made;
+          ∙ ap (λ (n : ℕ). maker_noted st.makers n (place_of_pair x.pair)) (sym number) ∙ sym made;
       differ =
           seconds ∙ ap (λ (b : Bool). not b && all_differ k.one st.list) first ∙ c.differ;
     }
 
 -- ---- How many there are.
 
-noted_there : (ps : List (Option Place)) (n : ℕ) (maker : Option Place) → n < length ps → length (noted ps n maker) ≡ length ps
+noted_there : (ps : List (Option Place)) (n : ℕ) (maker : Option Place) → n < length ps → length (maker_noted ps n maker) ≡ length ps
 noted_there [] n maker within = absurd (omega (arith, within))
 noted_there (p ∷ ps) zero maker within = refl
 noted_there (p ∷ ps) (suc n) maker within = ap (λ (m : ℕ). suc m) (noted_there ps n maker (omega (arith, within)))
 
-noted_new : (ps : List (Option Place)) (n : ℕ) (maker : Option Place) → n ≡ length ps → length (noted ps n maker) ≡ suc (length ps)
+noted_new : (ps : List (Option Place)) (n : ℕ) (maker : Option Place) → n ≡ length ps → length (maker_noted ps n maker) ≡ suc (length ps)
 noted_new [] n maker is = refl
 noted_new (p ∷ ps) zero maker is = absurd (omega (arith, is))
 noted_new (p ∷ ps) (suc n) maker is = ap (λ (m : ℕ). suc m) (noted_new ps n maker (omega (arith, is)))
@@ -210,17 +211,18 @@ past {A = A} test (x ∷ xs) h = go (test x) h (past test xs)
 -- as many makers as members
 pub as_many : {A : Type 0} (same : A → A → Bool) → ((x : A) → same x x ≡ true) → (there after : List A) (x : A)
     (makers noted_makers : List (Option Place)) (maker : Option Place) → length makers ≡ length there
-    → after ≡ with_new same there (x ∷ []) → noted_makers ≡ noted makers (first_position (same x) after) maker
+    → after ≡ with_new same there (x ∷ []) → noted_makers ≡ maker_noted makers (first_position (same x) after) maker
     → length noted_makers ≡ length after
 as_many {A = A} same itself there after x makers noted_makers maker many added made =
-    ap (λ (ps : List (Option Place)). length ps) made ∙ ap (λ (n : ℕ). length (noted makers n maker)) number
+    ap (λ (ps : List (Option Place)). length ps) made ∙ ap (λ (n : ℕ). length (maker_noted makers n maker)) number
     ∙ go (list_any (same x) there) refl ∙ ap (λ (ys : List A). length ys) (sym added)
   where
     number : first_position (same x) after ≡ first_position (same x) there
     number = ap (λ (ys : List A). first_position (same x) ys) added ∙ first_of_added same there x (itself x)
 
     go : (b : Bool) → list_any (same x) there ≡ b
-        → length (noted makers (first_position (same x) there) maker) ≡ length (if list_any (same x) there then there else there ++ x ∷ [])
+        → length (maker_noted makers (first_position (same x) there) maker)
+        ≡ length (if list_any (same x) there then there else there ++ x ∷ [])
     go true told =
         let below : first_position (same x) there < length makers =
         let first : first_position (same x) there < length there = position_within (same x) there told in omega (arith, first, many) in

@@ -185,11 +185,6 @@ in_no_form a o none neither_one =
 
 -- ---- What the code's index answers.
 
-pub found_as : {A : Type 0} (test : A → Bool) (xs : List A) (found : Option ℕ) → found ≡ position test xs
-    → MatchOption found (list_any test xs ≡ false) (λ (n : ℕ). (list_any test xs ≡ true) × (n ≡ first_position test xs) × (n < length xs))
-found_as test xs None is = found_none test xs is
-found_as test xs (Some n) is = found_one test xs n is
-
 pub position_by_profile : (keys : List (Vec ℕ Global)) (operations : List Operation) (o : Operation) (items : List ℕ) (found : Option ℕ)
     → found ≡ position (has_items items) keys → Kept keys operations → items ≡ profile_key o
     → MatchOption found (list_any (are_one_operation o) operations ≡ false)

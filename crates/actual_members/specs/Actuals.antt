@@ -5,7 +5,7 @@ use Rattle.lotos_base.specs.Signature.{Sort, Operation, Form}
 use Rattle.syntax_trees.specs.WrittenItem.{WrittenPair, WrittenPairs}
 use Rattle.sort_terms.specs.ReadingOutcome.{is_sort_name}
 use Rattle.type_definitions.specs.TypeFault.{TypeFault, fault_if}
-use Rattle.type_definitions.specs.Presentation.{Presentation, is_marked}
+use Rattle.type_definitions.specs.Presentation.{Presentation, is_marked_number}
 use Rattle.type_definitions.specs.Renaming.{pair_for}
 use Rattle.type_definitions.specs.Actualisation.{Actualising, actual_name, actual_sort, actual_operation, formal_sorts_of, formal_operations_of, has_actual, other_form}
 use Rattle.type_definitions.specs.ActualisationFaults.{missing, no_actual_sort, formal_sort_fault, formal_operation_fault}
@@ -19,7 +19,7 @@ actualising_with at base actual type_name pairs =
 abbrev pub actuals_from : {A : Type 0} → List ℕ → (A → ℕ) → ℕ → List A → List (Option ℕ)
 actuals_from marks actual number [] = []
 actuals_from marks actual number (x ∷ xs) =
-    (if is_marked marks number then Some (actual x) else None) ∷ actuals_from marks actual (suc number) xs
+    (if is_marked_number marks number then Some (actual x) else None) ∷ actuals_from marks actual (suc number) xs
 
 -- a formal sort without an actual one
 abbrev pub sort_lacks_actual : Actualising → Sort → Option TypeFault

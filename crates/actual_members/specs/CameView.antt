@@ -14,7 +14,7 @@ use Rattle.type_definitions.specs.Presentation.{first_position, presentation_lim
 use Rattle.type_definitions.specs.ActualisationFaults.{Coming}
 use Rattle.actual_members.specs.Condensed.{Kind, place_of_pair}
 use Rattle.actual_members.specs.MakersView.{makers_in}
-use Rattle.actual_members.specs.Noting.{maker_at, no_makers, noted, two_makers}
+use Rattle.actual_members.specs.Noting.{maker_at, no_makers, maker_noted, two_makers}
 use Rattle.actual_members.specs.FaultPlaces.{kept_place, stands_at}
 use Rattle.actual_members.specs.declared.came.Came.{Came}
 
@@ -77,7 +77,7 @@ pub record HasActual {A : Type 0} (old new : Arrived A) (number : ℕ) : Type 0 
 pub record HasImage {A : Type 0} (k : Kind A) (mention : PlacedName) (x : Coming A) (old new : Arrived A) : Type 0 where
   pub list : new.list ≡ with_new (are_one_member k) old.list (x.image ∷ [])
   pub numbers : new.numbers ≡ old.numbers ++ first_position (are_one_member k x.image) new.list ∷ []
-  pub makers : new.makers ≡ noted old.makers (first_position (are_one_member k x.image) new.list) (place_of_pair x.pair)
+  pub makers : new.makers ≡ maker_noted old.makers (first_position (are_one_member k x.image) new.list) (place_of_pair x.pair)
   pub is_second : Bool
   pub seconds : all_differ k.one new.list ≡ (not is_second && all_differ k.one old.list)
   pub clash : new.clash

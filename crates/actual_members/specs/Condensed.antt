@@ -13,8 +13,8 @@ pub record Kind (A : Type 0) : Type 0 where
   pub origin : A → A → Bool
 
 -- whether two members of one name, form and profile are different
-abbrev pub clashes : {A : Type 0} → Kind A → Coming A → Coming A → Bool
-clashes k x y = k.one x.image y.image && (not (k.origin x.image y.image) || made_by_two x.pair y.pair)
+abbrev pub members_clash : {A : Type 0} → Kind A → Coming A → Coming A → Bool
+members_clash k x y = k.one x.image y.image && (not (k.origin x.image y.image) || made_by_two x.pair y.pair)
 
 -- the first of two pairs
 abbrev pub first_pair : Option WrittenPair → Option WrittenPair → Option WrittenPair

@@ -20,10 +20,10 @@ two_makers (Some place) None = false
 two_makers (Some place) (Some other) = not (is_same_place place other)
 
 -- with a maker of the member of this number, or of a new one at the end
-abbrev pub noted : List (Option Place) → ℕ → Option Place → List (Option Place)
-noted [] number maker = maker ∷ []
-noted (p ∷ ps) zero maker = first_place p maker ∷ ps
-noted (p ∷ ps) (suc number) maker = p ∷ noted ps number maker
+abbrev pub maker_noted : List (Option Place) → ℕ → Option Place → List (Option Place)
+maker_noted [] number maker = maker ∷ []
+maker_noted (p ∷ ps) zero maker = first_place p maker ∷ ps
+maker_noted (p ∷ ps) (suc number) maker = p ∷ maker_noted ps number maker
 
 -- the maker of the member of this number
 abbrev pub maker_at : List (Option Place) → ℕ → Option Place

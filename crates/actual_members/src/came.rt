@@ -4,7 +4,7 @@ ghost use Rattle.actual_members.specs.CameView.{place_kept};
 ghost use Rattle.actual_members.specs.FaultPlaces.{kept_place, stands_at};
 ghost use Rattle.actual_members.specs.Condensed.{place_of_pair as maker_of};
 ghost use Rattle.actual_members.specs.MakersView.{makers_in, place_seen};
-ghost use Rattle.actual_members.specs.Noting.{maker_at, noted, two_makers};
+ghost use Rattle.actual_members.specs.Noting.{maker_at, maker_noted, two_makers};
 ghost use Rattle.lotos_base.specs.WrittenView.{placed_name_of};
 ghost use Rattle.std.specs.Option.{option_map};
 ghost use Rattle.std.specs.Prelude.{
@@ -69,7 +69,7 @@ impl Came {
         ensures numbers { OnOk result (self.new.numbers.items
             ≡ self.old.numbers.items ++ number ∷ []) }
         ensures makers { OnOk result (makers_in self.new.makers
-            ≡ noted (makers_in self.old.makers) number
+            ≡ maker_noted (makers_in self.old.makers) number
             (maker_of (option_map (λ p. pair_of p.now) pair.entry))) }
         ensures clash { OnOk result (place_kept self.new.clash
             ≡ kept_place (place_kept self.old.clash)

@@ -1,7 +1,7 @@
 //! The pairs that made what came.
 
 ghost use Rattle.actual_members.specs.MakersView.{place_seen};
-ghost use Rattle.actual_members.specs.Noting.{first_place, maker_at, noted, two_makers};
+ghost use Rattle.actual_members.specs.Noting.{first_place, maker_at, maker_noted, two_makers};
 ghost use Rattle.lotos_base.specs.WrittenView.{text_place_of};
 ghost use Rattle.type_definitions.specs.Presentation.{is_same_place as are_same_place};
 ghost use Rattle.std.specs.Prelude.{◌≡◌, ◌≤◌, IfOk, OnOk, length};
@@ -35,7 +35,7 @@ impl Makers {
     pub fn note(&mut self, number: usize, maker: Option<Place>) -> Result<bool, NoMemory>
         requires { number ≤ length (makers_in self.old) }
         ensures makers { OnOk result (makers_in self.new
-            ≡ noted (makers_in self.old) number (place_seen maker)) }
+            ≡ maker_noted (makers_in self.old) number (place_seen maker)) }
         ensures two { IfOk result (λ two. two
             ≡ two_makers (place_seen maker) (maker_at (makers_in self.old) number)) }
     {

@@ -7,7 +7,7 @@ ghost use Rattle.std.specs.List.{list_any};
 ghost use Rattle.std.specs.Option.{option_map};
 ghost use Rattle.std.specs.Prelude.{◌≡◌, ℕ, IfOk, List};
 ghost use Rattle.syntax_trees.specs.TreeViews.{pair_of};
-ghost use Rattle.type_definitions.specs.Actualisation.{unless};
+ghost use Rattle.type_definitions.specs.Actualisation.{pair_unless};
 ghost use Rattle.type_definitions.specs.Renaming.{pair_for};
 ghost use Rattle.type_pairs.specs.PairIndexView.{pairs_in};
 
@@ -36,7 +36,7 @@ impl<'a> Source<'a> {
     pub fn renamer(&self, alloc: Global, name: &Name) -> Result<Option<&PairText>, NoMemory>
         ensures { IfOk result (λ found. (names : List (List ℕ))
             → HasNames self.now.formals.now names → option_map (λ p. pair_of p.now) found
-            ≡ unless (list_any (λ n. one_name n (spelling name.now)) names)
+            ≡ pair_unless (list_any (λ n. one_name n (spelling name.now)) names)
             (pair_for (pairs_in self.now.pairs.now) (spelling name.now))) }
     {
         let formal = self.formals.first(alloc, name)?;

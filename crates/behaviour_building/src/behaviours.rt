@@ -2,7 +2,7 @@
 
 ghost use Rattle.std.specs.Prelude.{◌≡◌, IfOk, Some, map, option_map, reverse};
 ghost use Rattle.lotos_base.specs.WrittenView.{text_place_of};
-ghost use Rattle.syntax_trees.specs.TreeViews.{behaviour_of, exit_value_of};
+ghost use Rattle.syntax_trees.specs.TreeViews.{written_behaviour_of, written_exit_value_of};
 ghost use Rattle.syntax_trees.specs.WrittenBehaviour as plain;
 ghost use Rattle.ll_engine.specs.Run.{from_last};
 ghost use Rattle.tree_building.specs.BehavioursMeaning.{exited, stopped};
@@ -47,8 +47,8 @@ fn stop(token: Option<Token>, parts: &mut Vec<Value>) -> Built
 /// `exit` with its values, which are held from the last to the first.
 #[tactic(auto, using(tree_building::proofs::FromLast::map_reverse))]
 fn exit_with(place: Place, values: Vec<ExitText>) -> BehText
-    ensures { behaviour_of result ≡ plain.exit (text_place_of place)
-        (from_last exit_value_of values.items) }
+    ensures { written_behaviour_of result ≡ plain.exit (text_place_of place)
+        (from_last written_exit_value_of values.items) }
 {
     BehText {
         place,

@@ -4,10 +4,10 @@ ghost use Rattle.std.specs.Prelude.{◌≡◌, ◌++◌, ◌∷◌, IfOk, List, 
 ghost use Rattle.lotos_base.specs.WrittenView.{placed_name_of, text_place_of};
 ghost use Rattle.lotos_rows.specs.Behaviours.{gate_choices_among};
 ghost use Rattle.lotos_rows.specs.Names.{variables_of_sort};
-ghost use Rattle.syntax_trees.specs.TreeViews.{behaviour_of, gate_choice_of, variable_of};
+ghost use Rattle.syntax_trees.specs.TreeViews.{written_behaviour_of, gate_choice_of, written_variable_of};
 ghost use Rattle.syntax_trees.specs.WrittenBehaviour as plain;
 ghost use Rattle.ll_engine.specs.Run.{from_last};
-ghost use Rattle.tree_building.specs.BehavioursMeaning.{alone, choice_after_word, choice_of_gates, choice_of_values, or_else};
+ghost use Rattle.tree_building.specs.BehavioursMeaning.{operand_alone, choice_after_word, choice_of_gates, choice_of_values, or_else};
 ghost use Rattle.tree_building.specs.Meaning.{Meaning};
 ghost use Rattle.tree_building.specs.MeaningView.{meaning};
 
@@ -25,9 +25,9 @@ use tree_building::value::{of_another_kind, take};
 /// `choice` over variables, which are held from the last to the first.
 #[tactic(auto, using(tree_building::proofs::FromLast::map_reverse))]
 fn choose_variables(place: Place, variables: Vec<VarText>, inside: Box<BehText>) -> BehText
-    ensures { behaviour_of result
-        ≡ plain.choose_value (text_place_of place) (from_last variable_of variables.items)
-        (behaviour_of inside.value) }
+    ensures { written_behaviour_of result
+        ≡ plain.choose_value (text_place_of place) (from_last written_variable_of variables.items)
+        (written_behaviour_of inside.value) }
 {
     let form = BehForm::ChooseValue(turned(variables), inside);
     BehText { place, form }
@@ -40,10 +40,11 @@ fn choose_values(
     names: Vec<Named>,
     end: ValueChoiceEnd,
 ) -> Result<Value, AllocError>
-    ensures { IfOk result (λ value. meaning value ≡ alone (plain.choose_value (text_place_of place)
+    ensures { IfOk result (λ value. meaning value
+        ≡ operand_alone (plain.choose_value (text_place_of place)
         (variables_of_sort (from_last placed_name_of names.items) (placed_name_of end.sort)
-        ++ from_last variable_of end.more.items)
-        (behaviour_of end.inside.value))) }
+        ++ from_last written_variable_of end.more.items)
+        (written_behaviour_of end.inside.value))) }
 {
     let ValueChoiceEnd { sort, more, inside } = end;
     let mut variables = more;
@@ -55,9 +56,9 @@ fn choose_values(
 /// `choice` over gates, whose declarations are held from the last to the first.
 #[tactic(auto, using(tree_building::proofs::FromLast::map_reverse))]
 fn choose_declared(place: Place, gates: Vec<GateText>, inside: Box<BehText>) -> BehText
-    ensures { behaviour_of result
+    ensures { written_behaviour_of result
         ≡ plain.choose_gate (text_place_of place) (from_last gate_choice_of gates.items)
-        (behaviour_of inside.value) }
+        (written_behaviour_of inside.value) }
 {
     let form = BehForm::ChooseGate(turned(gates), inside);
     BehText { place, form }
@@ -71,10 +72,11 @@ fn choose_gates(
     names: Vec<Named>,
     end: GateChoiceEnd,
 ) -> Result<Value, AllocError>
-    ensures { IfOk result (λ value. meaning value ≡ alone (plain.choose_gate (text_place_of place)
+    ensures { IfOk result (λ value. meaning value
+        ≡ operand_alone (plain.choose_gate (text_place_of place)
         (gate_choices_among (from_last placed_name_of names.items)
         (from_last placed_name_of end.among.items) ++ from_last gate_choice_of end.more.items)
-        (behaviour_of end.inside.value))) }
+        (written_behaviour_of end.inside.value))) }
 {
     let GateChoiceEnd {
         among,

@@ -4,7 +4,7 @@ ghost use Rattle.std.specs.Prelude.{◌≡◌, ◌++◌, ◌∷◌, [], IfOk, On
 ghost use Rattle.lotos_base.specs.WrittenView.{placed_name_of};
 ghost use Rattle.lotos_rows.specs.Behaviours.{gate_choices_among};
 ghost use Rattle.lotos_rows.specs.Names.{variables_of_sort};
-ghost use Rattle.syntax_trees.specs.TreeViews.{gate_choice_of, offer_of, sign_of};
+ghost use Rattle.syntax_trees.specs.TreeViews.{gate_choice_of, written_offer_of, sign_of};
 ghost use Rattle.syntax_trees.specs.WrittenBehaviour.{offer_variable};
 ghost use Rattle.ll_engine.specs.Run.{from_last};
 ghost use Rattle.tree_building.specs.BehavioursMeaning.{any_before_exit_values, enabling_sign, gate_choice_end, gates_before_gate_choices, gates_sign, let_before_lets, offer_of_value, offers_of_variables, sign_of_token, term_before_exit_values, value_choice_end};
@@ -36,7 +36,7 @@ pub fn give(alloc: Global, parts: &mut Vec<Value>) -> Built
 /// A question for each of the names, the last name first.
 #[tactic(auto, using(tree_building::proofs::FromLast::from_last_more, tree_building::proofs::FromLast::from_last_none))]
 fn questions(alloc: Global, names: Vec<Named>, sort: &Named) -> Result<Vec<OfferText>, AllocError>
-    ensures { IfOk result (λ offers. from_last offer_of offers.items
+    ensures { IfOk result (λ offers. from_last written_offer_of offers.items
         ≡ map offer_variable (variables_of_sort (from_last placed_name_of names.items)
         (placed_name_of sort.now))) }
 {

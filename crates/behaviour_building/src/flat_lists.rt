@@ -2,10 +2,10 @@
 
 ghost use Rattle.std.specs.Prelude.{◌≡◌, ◌∷◌, IfOk, Some, map, option_map, reverse};
 ghost use Rattle.syntax_trees.specs.Grouping as grouping;
-ghost use Rattle.syntax_trees.specs.Strength.{joined, strength_of};
-ghost use Rattle.syntax_trees.specs.TreeViews.{behaviour_of};
+ghost use Rattle.syntax_trees.specs.Strength.{joined_by_sign, strength_of};
+ghost use Rattle.syntax_trees.specs.TreeViews.{written_behaviour_of};
 ghost use Rattle.ll_engine.specs.Run.{from_last};
-ghost use Rattle.tree_building.specs.BehavioursMeaning.{alone, before_tail, bracketed_behaviour, chosen, no_tail, sign_before_behaviour};
+ghost use Rattle.tree_building.specs.BehavioursMeaning.{operand_alone, before_tail, bracketed_behaviour, chosen, no_tail, sign_before_behaviour};
 ghost use Rattle.tree_building.specs.BehavioursViews.{flat_of};
 ghost use Rattle.tree_building.specs.MeaningView.{meaning};
 
@@ -21,8 +21,9 @@ use tree_building::value::{held, take};
 /// The tree of a flat list, or none where it has not one operand more than signs.
 #[tactic(auto, using(tree_building::proofs::FromLast::map_reverse))]
 pub fn grouped(alloc: Global, flat: Flat) -> Result<Option<BehText>, AllocError>
-    ensures { IfOk result (λ tree. option_map behaviour_of tree
-        ≡ grouping.grouped strength_of joined (flat_of flat).operands (flat_of flat).signs) }
+    ensures { IfOk result (λ tree. option_map written_behaviour_of tree
+        ≡ grouping.grouped strength_of joined_by_sign (flat_of flat).operands
+        (flat_of flat).signs) }
 {
     if flat.operands.len() != flat.signs.len() + 1 {
         return Ok(None);
@@ -34,7 +35,8 @@ pub fn grouped(alloc: Global, flat: Flat) -> Result<Option<BehText>, AllocError>
 /// The behaviour as the only operand of a flat list.
 #[tactic(auto, using(tree_building::proofs::FromLast::from_last_more, tree_building::proofs::FromLast::from_last_none))]
 pub fn only_operand(alloc: Global, behaviour: BehText) -> Result<Value, AllocError>
-    ensures { IfOk result (λ value. meaning value ≡ alone (behaviour_of behaviour)) }
+    ensures { IfOk result (λ value. meaning value
+        ≡ operand_alone (written_behaviour_of behaviour)) }
 {
     let mut operands = Vec::new(alloc);
     operands.push(behaviour)?;
@@ -48,7 +50,7 @@ pub fn only_operand(alloc: Global, behaviour: BehText) -> Result<Value, AllocErr
 #[tactic(auto, using(tree_building::proofs::FromLast::from_last_more))]
 pub fn operand_before(behaviour: BehText, tail: Flat) -> Result<Value, AllocError>
     ensures { IfOk result (λ value. meaning value
-        ≡ before_tail (behaviour_of behaviour) (flat_of tail)) }
+        ≡ before_tail (written_behaviour_of behaviour) (flat_of tail)) }
 {
     let Flat {
         mut operands,

@@ -2,7 +2,7 @@
 
 ghost use Rattle.std.specs.Prelude.{◌≡◌, ◌∷◌, IfOk, List, map, option_map, reverse};
 ghost use Rattle.lotos_base.specs.WrittenView.{placed_name_of, text_place_of, written_term_of};
-ghost use Rattle.syntax_trees.specs.TreeViews.{behaviour_of, offer_of, premiss_of};
+ghost use Rattle.syntax_trees.specs.TreeViews.{written_behaviour_of, written_offer_of, premiss_of};
 ghost use Rattle.syntax_trees.specs.WrittenBehaviour as plain;
 ghost use Rattle.ll_engine.specs.Run.{from_last};
 ghost use Rattle.tree_building.specs.BehavioursMeaning.{action_of_gate, action_with_selection, action_without_offers, before_tail, call_of_process, call_without_name, guarded, inner_prefixed, name_first, offers_before_action, or_else, prefixed};
@@ -22,8 +22,8 @@ use tree_building::value::{held, of_another_kind, take};
 
 /// `i; B`.
 fn inner_action(alloc: Global, place: Place, next: BehText) -> Result<BehText, AllocError>
-    ensures { IfOk result (λ it. behaviour_of it
-        ≡ plain.inner_action (text_place_of place) (behaviour_of next)) }
+    ensures { IfOk result (λ it. written_behaviour_of it
+        ≡ plain.inner_action (text_place_of place) (written_behaviour_of next)) }
 {
     let form = BehForm::Inner(Box::new(alloc, next)?);
     Ok(BehText { place, form })
@@ -62,8 +62,8 @@ pub fn inner(alloc: Global, token: Option<Token>, parts: &mut Vec<Value>) -> Bui
 
 /// `[test] -> B`.
 fn guard(alloc: Global, place: Place, test: TestText, next: BehText) -> Result<BehText, AllocError>
-    ensures { IfOk result (λ it. behaviour_of it
-        ≡ plain.guard (text_place_of place) (premiss_of test) (behaviour_of next)) }
+    ensures { IfOk result (λ it. written_behaviour_of it
+        ≡ plain.guard (text_place_of place) (premiss_of test) (written_behaviour_of next)) }
 {
     let form = BehForm::Guard(test, Box::new(alloc, next)?);
     Ok(BehText { place, form })
@@ -117,10 +117,10 @@ fn action(
     test: Option<TestText>,
     next: BehText,
 ) -> Result<BehText, AllocError>
-    ensures { IfOk result (λ it. behaviour_of it
+    ensures { IfOk result (λ it. written_behaviour_of it
         ≡ plain.action (placed_name_of gate).place (placed_name_of gate).name
-        (from_last offer_of offers.items) (option_map premiss_of test)
-        (behaviour_of next)) }
+        (from_last written_offer_of offers.items) (option_map premiss_of test)
+        (written_behaviour_of next)) }
 {
     let form = BehForm::Action {
         gate: gate.1,
@@ -139,7 +139,7 @@ fn action(
 fn action_before(alloc: Global, gate: Named, end: ActionEnd) -> Result<Value, AllocError>
     ensures { IfOk result (λ value. meaning value ≡ prefixed
         (plain.action (placed_name_of gate).place (placed_name_of gate).name
-        (from_last offer_of end.offers.items) (option_map premiss_of end.test))
+        (from_last written_offer_of end.offers.items) (option_map premiss_of end.test))
         (flat_of end.behind)) }
 {
     let ActionEnd {
@@ -161,7 +161,7 @@ fn action_before(alloc: Global, gate: Named, end: ActionEnd) -> Result<Value, Al
 /// A call, whose gates and values are held from the last to the first.
 #[tactic(auto, using(tree_building::proofs::FromLast::map_reverse))]
 fn call(name: Named, gates: Vec<Named>, values: Vec<Written>) -> BehText
-    ensures { behaviour_of result
+    ensures { written_behaviour_of result
         ≡ plain.call (placed_name_of name).place (placed_name_of name).name
         (from_last placed_name_of gates.items) (from_last written_term_of values.items) }
 {

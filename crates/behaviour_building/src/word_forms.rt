@@ -2,11 +2,11 @@
 
 ghost use Rattle.std.specs.Prelude.{◌≡◌, IfOk, map, option_map, reverse};
 ghost use Rattle.lotos_base.specs.WrittenView.{placed_name_of, text_place_of};
-ghost use Rattle.syntax_trees.specs.TreeViews.{behaviour_of, gate_choice_of, sign_of};
+ghost use Rattle.syntax_trees.specs.TreeViews.{written_behaviour_of, gate_choice_of, sign_of};
 ghost use Rattle.syntax_trees.specs.WrittenBehaviour as plain;
 ghost use Rattle.ll_engine.specs.Run.{from_last};
 ghost use Rattle.tree_building.specs.BehavioursMeaning.{hidden, let_in, par_after_word};
-ghost use Rattle.tree_building.specs.BehavioursViews.{let_of};
+ghost use Rattle.tree_building.specs.BehavioursViews.{written_let_of};
 ghost use Rattle.tree_building.specs.MeaningView.{meaning};
 
 use crate::flat_lists::{grouped, only_operand};
@@ -27,9 +27,9 @@ fn hide(
     gates: Vec<Named>,
     inside: BehText,
 ) -> Result<BehText, AllocError>
-    ensures { IfOk result (λ it. behaviour_of it
+    ensures { IfOk result (λ it. written_behaviour_of it
         ≡ plain.hide (text_place_of place) (from_last placed_name_of gates.items)
-        (behaviour_of inside)) }
+        (written_behaviour_of inside)) }
 {
     let form = BehForm::Hide(turned(gates), Box::new(alloc, inside)?);
     Ok(BehText { place, form })
@@ -64,8 +64,9 @@ fn let_be(
     values: Vec<(VarText, Written)>,
     inside: BehText,
 ) -> Result<BehText, AllocError>
-    ensures { IfOk result (λ it. behaviour_of it
-        ≡ plain.let_be (text_place_of place) (from_last let_of values.items) (behaviour_of inside)) }
+    ensures { IfOk result (λ it. written_behaviour_of it
+        ≡ plain.let_be (text_place_of place) (from_last written_let_of values.items)
+        (written_behaviour_of inside)) }
 {
     let form = BehForm::Let(turned(values), Box::new(alloc, inside)?);
     Ok(BehText { place, form })
@@ -102,9 +103,9 @@ fn par(
     sign: Sign,
     inside: BehText,
 ) -> Result<BehText, AllocError>
-    ensures { IfOk result (λ it. behaviour_of it
+    ensures { IfOk result (λ it. written_behaviour_of it
         ≡ plain.par_gate (text_place_of place) (from_last gate_choice_of gates.items) (sign_of sign)
-        (behaviour_of inside)) }
+        (written_behaviour_of inside)) }
 {
     let form = BehForm::ParGate(turned(gates), sign, Box::new(alloc, inside)?);
     Ok(BehText { place, form })

@@ -22,7 +22,7 @@ use Rattle.behaviour_tree.specs.Closed.{IsGivenOnce}
 use Rattle.behaviour_tree.specs.Over.{AreTermsOf}
 use Rattle.behaviour_tree.specs.StateView.{pair_profile}
 use Rattle.behaviour_tree.specs.declared.behaviours.Beh.{Beh, Stop, Exit, Action', Inner', Guard', Choice', Parallel', Hide', Enable', Disable', Let', ChooseValue', ChooseGate', ParGate', Call}
-use Rattle.behaviour_instances.specs.InstanceTerms.{instance_profiles, let_placed, offer_placed, terms_placed}
+use Rattle.behaviour_instances.specs.InstanceTerms.{instance_profiles, let_placed, offer_terms_placed, terms_placed}
 use Rattle.behaviour_instances.specs.InstanceLaws.{InstancesAreOfSignatures, StatesSuit}
 use Rattle.behaviour_instances.specs.Unlisted.{profiled_without}
 
@@ -84,10 +84,10 @@ module _ (signature : Signature) where
   instance_terms values g (Exit results) h = joined_of exit_profiles values g results.items h
   instance_terms values g (Action' _ offers test _ next) h =
       both_of (joined (map offer_profiles offers.items) ++ option_profiles test) (profiles_in next)
-      (joined (map (offer_placed values) offers.items)
+      (joined (map (offer_terms_placed values) offers.items)
       ++ terms_placed (profiled_without (numbers_of (asked_variables (map offer_of offers.items))) values) (option_profiles test))
       (instance_profiles (profiled_without (numbers_of (asked_variables (map offer_of offers.items))) values) next)
-      (both_of (joined (map offer_profiles offers.items)) (option_profiles test) (joined (map (offer_placed values) offers.items))
+      (both_of (joined (map offer_profiles offers.items)) (option_profiles test) (joined (map (offer_terms_placed values) offers.items))
       (terms_placed (profiled_without (numbers_of (asked_variables (map offer_of offers.items))) values) (option_profiles test))
       (joined_of offer_profiles values g offers.items)
       (placed_of (profiled_without (numbers_of (asked_variables (map offer_of offers.items))) values)

@@ -20,7 +20,7 @@ use Rattle.behaviour_instances.specs.Instances.{IsInstance}
 use Rattle.behaviour_instances.specs.Unlisted.{profiled_without}
 use Rattle.behaviour_instances.proofs.FormLemmas.{same_three, same_two}
 
-nothing_put : binding [] ≡ variable
+pub nothing_put : binding [] ≡ variable
 nothing_put = fun_ext (λ n. fun_ext (λ s. refl))
 
 nothing_placed : profiled_binding [] ≡ profiled_variable

@@ -1,16 +1,6 @@
 -- Loops that make a list of a list, one after the other.
-use Rattle.std.proofs.Common.{◌≡◌, ◌<◌, ◌++◌, ℕ, zero, suc, ◌+◌, List, [], ◌∷◌, length, drop, get_or, ap, sym, ◌∙◌, subst, add-one}
+use Rattle.std.proofs.Common.{◌≡◌, ◌<◌, ℕ, zero, suc, List, [], ◌∷◌, length, drop, get_or, ap, sym, ◌∙◌, subst}
 use Rattle.std.proofs.Math.Seq.{drop-cons}
-
--- one turn of the loop
-pub one_turn : {A X : Type 0} (f : List A → List X) (items : List A) (i : ℕ) (x : A) (old more whole : List X) → i < length items
-    → x ≡ get_or items i x → ((rest : List A) → more ++ f rest ≡ old ++ f (x ∷ rest))
-    → old ++ f (drop i items) ≡ whole → more ++ f (drop (i + 1) items) ≡ whole
-one_turn {A = A} {X = X} f items i x old more whole within is step before =
-    let here : drop i items ≡ x ∷ drop (suc i) items =
-    drop-cons items i x within ∙ ap (λ (y : A). y ∷ drop (suc i) items) (sym is) in
-    ap (λ (j : ℕ). more ++ f (drop j items)) (add-one i)
-    ∙ (step (drop (suc i) items) ∙ (ap (λ (xs : List A). old ++ f xs) (sym here) ∙ before))
 
 -- what holds of the rest from an index on holds of the whole, where it holds of a list if it holds of its rest
 from_rest : {A : Type 0} (P : List A → Type 0) → ((x : A) (rest : List A) → P rest → P (x ∷ rest)) → (i : ℕ) (items : List A)

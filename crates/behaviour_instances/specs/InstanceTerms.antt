@@ -17,16 +17,16 @@ use Rattle.behaviour_tree.specs.declared.behaviours.Beh.{Beh, Stop, Exit, Action
 use Rattle.behaviour_instances.specs.Unlisted.{profiled_without}
 
 -- a variable of `let` with its term, in which terms are put
-abbrev pub binding_placed : Substitution → equation.Variable × Term → equation.Variable × Term
-binding_placed values bound = (bound.0, substituted values bound.1)
+abbrev pub let_pair_placed : Substitution → equation.Variable × Term → equation.Variable × Term
+let_pair_placed values bound = (bound.0, substituted values bound.1)
 
 -- terms with terms put in
 abbrev pub terms_placed : ProfiledSubstitution → List ProfiledTerm → List ProfiledTerm
 terms_placed values terms = map (profiled_instance values) terms
 
 -- those of an offer, of a value of `exit`, and of a variable of `let`
-abbrev pub offer_placed : ProfiledSubstitution → Offer → List ProfiledTerm
-offer_placed values offer = terms_placed values (offer_profiles offer)
+abbrev pub offer_terms_placed : ProfiledSubstitution → Offer → List ProfiledTerm
+offer_terms_placed values offer = terms_placed values (offer_profiles offer)
 
 abbrev pub exit_placed : ProfiledSubstitution → ExitValue → List ProfiledTerm
 exit_placed values value = terms_placed values (exit_profiles value)
@@ -39,7 +39,7 @@ abbrev pub instance_profiles : ProfiledSubstitution → Beh → List ProfiledTer
 instance_profiles values Stop = []
 instance_profiles values (Exit results) = joined (map (exit_placed values) results.items)
 instance_profiles values (Action' _ offers test _ next) =
-    joined (map (offer_placed values) offers.items)
+    joined (map (offer_terms_placed values) offers.items)
     ++ terms_placed (profiled_without (numbers_of (asked_variables (map offer_of offers.items))) values) (option_profiles test)
     ++ instance_profiles (profiled_without (numbers_of (asked_variables (map offer_of offers.items))) values) next
 instance_profiles values (Inner' _ next) = instance_profiles values next
@@ -61,6 +61,6 @@ instance_profiles values (Call _ _ _ arguments) = terms_placed values (profiles_
 -- those of an action
 abbrev pub action_profiles : ProfiledSubstitution → List Offer → Option Test → Beh → List ProfiledTerm
 action_profiles values offers test next =
-    joined (map (offer_placed values) offers)
+    joined (map (offer_terms_placed values) offers)
     ++ terms_placed (profiled_without (numbers_of (asked_variables (map offer_of offers))) values) (option_profiles test)
     ++ instance_profiles (profiled_without (numbers_of (asked_variables (map offer_of offers))) values) next

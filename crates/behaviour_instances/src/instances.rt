@@ -4,7 +4,7 @@ ghost use Rattle.behaviour_instances.specs.InstanceTerms.{
   action_profiles,
   instance_profiles,
   let_placed,
-  offer_placed,
+  offer_terms_placed,
   terms_placed,
 };
 ghost use Rattle.behaviour_instances.specs.Instances.{IsInstance};
@@ -513,7 +513,7 @@ fn placed_head(
     ensures test { IfOk result (λ made. option_map test_of made.1
         ≡ option_map (test_with (binding (environment_of inner.now.items)))
         (option_map test_of test.now)) }
-    ensures offered { IfOk result (λ made. map offer_profiles made.0.items ≡ map (offer_placed
+    ensures offered { IfOk result (λ made. map offer_profiles made.0.items ≡ map (offer_terms_placed
         (profiled_binding (profiled_pairs environment.now.items))) offers.now.items) }
     ensures tested { IfOk result (λ made. option_profiles made.1 ≡ terms_placed
         (profiled_binding (profiled_pairs inner.now.items)) (option_profiles test.now)) }

@@ -1,9 +1,9 @@
 //! Values of an environment put into the terms of a behaviour.
 
 ghost use Rattle.behaviour_instances.specs.InstanceTerms.{
-  binding_placed,
+  let_pair_placed,
   exit_placed,
-  offer_placed,
+  offer_terms_placed,
   terms_placed,
 };
 ghost use Rattle.behaviour_instances.specs.Suited.{SuitsWhere};
@@ -121,7 +121,7 @@ fn placed_offer(environment: &Vec<(u64, Sorted)>, offer: &Offer) -> Result<Offer
         (λ n s. OccursInOffers n s (offer_of offer.now ∷ [])) }
     ensures same { IfOk result (λ o. offer_of o
         ≡ offer_with (binding (environment_of environment.now.items)) (offer_of offer.now)) }
-    ensures terms { IfOk result (λ o. offer_profiles o ≡ offer_placed
+    ensures terms { IfOk result (λ o. offer_profiles o ≡ offer_terms_placed
         (profiled_binding (profiled_pairs environment.now.items)) offer.now) }
 {
     match offer {
@@ -140,7 +140,7 @@ pub fn placed_offers(
     ensures same { IfOk result (λ made. map offer_of made.items
         ≡ map (offer_with (binding (environment_of environment.now.items)))
         (map offer_of offers.now.items)) }
-    ensures terms { IfOk result (λ made. map offer_profiles made.items ≡ map (offer_placed
+    ensures terms { IfOk result (λ made. map offer_profiles made.items ≡ map (offer_terms_placed
         (profiled_binding (profiled_pairs environment.now.items))) offers.now.items) }
 {
     let mut made = Vec::with_capacity(*environment.allocator(), offers.len())?;
@@ -194,7 +194,7 @@ pub fn placed_bindings(
     requires { SuitsWhere (profiled_pairs environment.now.items)
         (λ n s. OccursInOne n s (let_terms (map let_of bindings.now.items))) }
     ensures same { IfOk result (λ made. map let_of made.items
-        ≡ map (binding_placed (binding (environment_of environment.now.items)))
+        ≡ map (let_pair_placed (binding (environment_of environment.now.items)))
         (map let_of bindings.now.items)) }
     ensures terms { IfOk result (λ made. map let_profile made.items ≡ map (let_placed
         (profiled_binding (profiled_pairs environment.now.items))) bindings.now.items) }

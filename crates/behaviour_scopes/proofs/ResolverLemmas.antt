@@ -1,8 +1,7 @@
 -- What is known where a behaviour stands, once something was made visible or taken off again.
 use Rattle.std.proofs.Common.{◌≡◌, ℕ, zero, suc, ◌+◌, ◌-◌, ◌<◌, ◌≤◌, List, [], ◌∷◌, ◌++◌, length, get_or, take, map, refl, ap, sym, ◌∙◌, subst, arith}
-use Rattle.std.specs.Prelude.{Some, slice_get}
 use Rattle.std.proofs.lemmas.List.{length-append, map-append, take_more, take-map, append-nil}
-use Rattle.std.proofs.lemmas.Option.{none-some}
+use Rattle.std.proofs.Math.Seq.{take-append_seam}
 use Rattle.lotos_base.specs.WrittenTerm.{WrittenTerm}
 use Rattle.lotos_base.specs.Signature.{Signature, IsSort}
 use Rattle.lotos_base.specs.Term.{Term}
@@ -19,9 +18,9 @@ use Rattle.behaviour_tree.specs.Over.{AreTermsOf}
 use Rattle.scope_parts.specs.Behaviours.{BehaviourIs, with_gates, with_variables}
 use Rattle.scope_parts.specs.GatesDeclared.{Gates, declared}
 use Rattle.behaviour_scopes.specs.Grown.{Grown}
-use Rattle.scope_parts.specs.Numbering.{gates_in, variable_count, asked_for, past, past_gates, past_variables}
+use Rattle.scope_parts.specs.Numbering.{gates_in, variable_count, asked_for, past_gates, past_variables}
 use Rattle.scope_parts.specs.Resolution.{Resolution, resolved}
-use Rattle.behaviour_scopes.specs.ResolverState.{State, numbers_at, BehaviourStandsFor, behind, passed, seeing, with_first_variables, with_last_gates, gates_at_state, with_gates_declared}
+use Rattle.behaviour_scopes.specs.ResolverState.{State, next_numbers_at, BehaviourStandsFor, behind_in_state, passed, seeing, with_first_variables, with_last_gates, gates_at_state, with_gates_declared}
 use Rattle.scope_parts.specs.Scope.{Binding, first_double}
 use Rattle.scope_parts.specs.Sorts.{placed_variables}
 use Rattle.scope_parts.specs.Terms.{BindingsAre, let_names, LetIs, OffersFollow, OffersAre}
@@ -29,15 +28,6 @@ use Rattle.scope_parts.proofs.FormedLists.{HaveSorts, AreDeclared, one_declared,
 use Rattle.scope_parts.proofs.GateLemmas.{declared_visible, declared_names, cut_back}
 
 -- ---- Scopes over a signature
-
-at_taken : {A : Type 0} (n : ℕ) (xs : List A) (i : ℕ) (x : A) → slice_get (take n xs) i ≡ Some x → slice_get xs i ≡ Some x
-at_taken zero xs i x at = absurd (none-some x at)
-at_taken (suc n) [] i x at = absurd (none-some x at)
-at_taken (suc n) (y ∷ ys) zero x at = at
-at_taken (suc n) (y ∷ ys) (suc i) x at = at_taken n ys i x at
-
-pub over_taken : (signature : Signature) (n : ℕ) (vs : List Variable) → IsScopeOver signature vs → IsScopeOver signature (take n vs)
-over_taken signature n vs over i v at = over i v (at_taken n vs i v at)
 
 every_taken : {A : Type 0} (P : A → Type 0) (n : ℕ) (xs : List A) → Every P xs → Every P (take n xs)
 every_taken P zero xs every = tt
@@ -50,10 +40,6 @@ over_grown signature added old new over sorted grown =
     subst (IsScopeOver signature) (sym grown.1)
     (over_more signature old (take grown.0 added) over
     (every_taken (λ (x : Variable). IsSort signature x.sort) grown.0 added sorted))
-
-pub over_cut : (signature : Signature) (n : ℕ) (old new : List Variable) → IsScopeOver signature old → new ≡ take n old
-    → IsScopeOver signature new
-over_cut signature n old new over are = subst (IsScopeOver signature) (sym are) (over_taken signature n old over)
 
 -- ---- Variables that are declared
 
@@ -107,10 +93,6 @@ append_assoc : {A : Type 0} (xs ys zs : List A) → (xs ++ ys) ++ zs ≡ xs ++ (
 append_assoc [] ys zs = refl
 append_assoc (x ∷ xs) ys zs = ap (λ vs. x ∷ vs) (append_assoc xs ys zs)
 
-take_front : {A : Type 0} (xs ys : List A) → take (length xs) (xs ++ ys) ≡ xs
-take_front [] ys = refl
-take_front (x ∷ xs) ys = ap (λ vs. x ∷ vs) (take_front xs ys)
-
 -- ---- Variables copied one by one
 
 taken_more : (items : List code.Variable) (i : ℕ) (x : code.Variable) → i < length items → x ≡ get_or items i x
@@ -162,20 +144,11 @@ pub declares : (state : State) (names : List (List ℕ)) (gates : Gates) → gat
 declares state names gates = ap (λ (g : Gates). known state g.names g.visible state.scope.variables state.variable)
 
 -- behind nothing, and behind one part after the other
-pub behind_nothing : (state : State) → state ≡ behind [] 0 state
+pub behind_nothing : (state : State) → state ≡ behind_in_state [] 0 state
 behind_nothing state =
     let number : state.variable ≡ state.variable + 0 = omega arith in
     ap (λ (ns : List (List ℕ)). known state ns state.scope.gates state.scope.variables state.variable) (sym (append-nil state.names))
     ∙ ap (λ (n : ℕ). known state (state.names ++ []) state.scope.gates state.scope.variables n) number
-
-pub behind_both : (old between new : State) (names more : List (List ℕ)) (m n : ℕ) → between ≡ behind names m old
-    → new ≡ behind more n between → new ≡ behind (names ++ more) (m + n) old
-behind_both old between new names more m n first later =
-    let number : (old.variable + m) + n ≡ old.variable + (m + n) = omega arith in
-    later ∙ ap (behind more n) first
-    ∙ ap (λ (ns : List (List ℕ)). known old ns old.scope.gates old.scope.variables ((old.variable + m) + n))
-    (append_assoc old.names names more)
-    ∙ ap (λ (k : ℕ). known old (old.names ++ (names ++ more)) old.scope.gates old.scope.variables k) number
 
 -- taken off behind a behaviour that saw them
 pub variables_fit : (old between new : State) (vs : List Variable) (b : WrittenBehaviour) (size : ℕ) → size ≡ length old.scope.variables
@@ -188,14 +161,14 @@ variables_fit old between new vs b size many first later =
 pub variables_forgotten : (old between new last : State) (vs : List Variable) (b : WrittenBehaviour) (size many : ℕ)
     → size ≡ length old.scope.variables → length vs ≡ many
     → between ≡ seeing vs old → new ≡ passed b between → last ≡ with_first_variables size new
-    → last ≡ behind (gates_in b) (many + variable_count b) old
+    → last ≡ behind_in_state (gates_in b) (many + variable_count b) old
 variables_forgotten old between new last vs b size many are counted first later cut =
     let number : (old.variable + length vs) + variable_count b ≡ old.variable + (many + variable_count b) = omega (arith, counted) in
     cut ∙ ap (with_first_variables size) (later ∙ ap (passed b) first)
     ∙ ap (λ (n : ℕ). with_first_variables n (passed b (seeing vs old))) are
     ∙ ap
     (λ (xs : List Variable). known old (old.names ++ gates_in b) old.scope.gates xs ((old.variable + length vs) + variable_count b))
-    (take_front old.scope.variables vs)
+    (take-append_seam old.scope.variables vs)
     ∙ ap (λ (n : ℕ). known old (old.names ++ gates_in b) old.scope.gates old.scope.variables n) number
 
 -- gates taken off behind a behaviour that saw them
@@ -207,7 +180,7 @@ gates_fit old between new names b size many first later =
 
 pub gates_forgotten : (old between new last : State) (names : List (List ℕ)) (b : WrittenBehaviour) (size : ℕ)
     → size ≡ length old.scope.gates → between ≡ with_gates_declared names old → new ≡ passed b between
-    → last ≡ with_last_gates size new → last ≡ behind (names ++ gates_in b) (variable_count b) old
+    → last ≡ with_last_gates size new → last ≡ behind_in_state (names ++ gates_in b) (variable_count b) old
 gates_forgotten old between new last names b size many first later cut =
     let whole : new ≡ passed b (with_gates_declared names old) = later ∙ ap (passed b) first in
     let back =
@@ -228,21 +201,21 @@ gates_forgotten old between new last names b size many first later cut =
 
 pub stands_seeing : (old between : State) (vs : List Variable) (many : ℕ) (b : WrittenBehaviour) (o : Resolution Behaviour)
     → between ≡ seeing vs old → length vs ≡ many → BehaviourStandsFor between b o
-    → BehaviourIs old.signature (with_variables vs old.scope) (past_variables many (numbers_at old)) b o
+    → BehaviourIs old.signature (with_variables vs old.scope) (past_variables many (next_numbers_at old)) b o
 stands_seeing old between vs many b o first counted stands =
-    subst (λ (n : ℕ). BehaviourIs old.signature (with_variables vs old.scope) (past_variables n (numbers_at old)) b o) counted
+    subst (λ (n : ℕ). BehaviourIs old.signature (with_variables vs old.scope) (past_variables n (next_numbers_at old)) b o) counted
     (subst (λ (s : State). BehaviourStandsFor s b o) first stands)
 
 pub stands_declared : (old between : State) (names : List (List ℕ)) (b : WrittenBehaviour) (o : Resolution Behaviour)
     → between ≡ with_gates_declared names old → BehaviourStandsFor between b o
-    → BehaviourIs old.signature (with_gates names (length old.names) old.scope) (past_gates (length names) (numbers_at old)) b o
+    → BehaviourIs old.signature (with_gates names (length old.names) old.scope) (past_gates (length names) (next_numbers_at old)) b o
 stands_declared old between names b o first stands =
     let number : length (declared names (gates_at_state old)).names ≡ length old.names + length names =
     ap (λ (ns : List (List ℕ)). length ns) (declared_names names (gates_at_state old)) ∙ length-append old.names names in
     subst
     (λ (gs : List Binding). BehaviourIs old.signature
     (record { gates = gs; variables = old.scope.variables; processes = old.scope.processes })
-    (past_gates (length names) (numbers_at old)) b o)
+    (past_gates (length names) (next_numbers_at old)) b o)
     (declared_visible names (gates_at_state old))
     (subst
     (λ (n : ℕ). BehaviourIs old.signature
@@ -253,11 +226,3 @@ stands_declared old between names b o first stands =
     })
     (record { gate = n; variable = old.variable; process = old.process }) b o)
     number (subst (λ (s : State). BehaviourStandsFor s b o) first stands))
-
-pub stands_passed : (old between : State) (left b : WrittenBehaviour) (o : Resolution Behaviour) → between ≡ passed left old
-    → BehaviourStandsFor between b o → BehaviourIs old.signature old.scope (past left (numbers_at old)) b o
-stands_passed old between left b o first stands =
-    subst
-    (λ (n : ℕ). BehaviourIs old.signature old.scope
-    (record { gate = n; variable = old.variable + variable_count left; process = old.process }) b o)
-    (length-append old.names (gates_in left)) (subst (λ (s : State). BehaviourStandsFor s b o) first stands)

@@ -10,15 +10,15 @@ use Rattle.syntax_trees.specs.WrittenVariable.{WrittenVariable}
 use Rattle.syntax_trees.specs.WrittenEquation.{WrittenPremiss}
 use Rattle.syntax_trees.specs.WrittenBehaviour as written
 use Rattle.syntax_trees.specs.WrittenBehaviour.{WrittenBehaviour, WrittenSign, WrittenGateChoice, WrittenOffer, synchronising, enabling}
-use Rattle.behaviour_semantics.specs.Behaviour.{Behaviour, Test, Offer, action, inner_action, guard, hide, enable, parallel, let_be, at_gates, asked_variables, let_variables}
+use Rattle.behaviour_semantics.specs.Behaviour.{Behaviour, Test, Offer, action, guard, hide, enable, parallel, let_be, at_gates, asked_variables, let_variables}
 use Rattle.behaviour_tree.specs.BehaviourView.{behaviour_of}
 use Rattle.behaviour_tree.specs.declared.behaviours.Beh.{Beh}
 use Rattle.scope_parts.specs.Behaviours.{BehaviourIs, SignIs, with_gates, with_variables, numbers_from}
 use Rattle.scope_parts.specs.ScopeFault.{ScopeFault}
 use Rattle.scope_parts.specs.Choices.{GateChoice, ParChoice, choices_at, par_choices_at, under_gates, under_par, under_values}
-use Rattle.scope_parts.specs.Numbering.{accepted, spelled, each_once, asked_for, choice_names, gates_in, variable_count, past, past_gates, past_variables}
+use Rattle.scope_parts.specs.Numbering.{accepted, spelled_names, each_once, asked_for, choice_names, gates_in, variable_count, past, past_gates, past_variables}
 use Rattle.scope_parts.specs.Resolution.{Resolution, resolved, faulty, Made}
-use Rattle.behaviour_scopes.specs.ResolverState.{State, numbers_at, BehaviourStandsFor, behind, passed, seeing, with_gates_declared}
+use Rattle.behaviour_scopes.specs.ResolverState.{State, next_numbers_at, BehaviourStandsFor, behind_in_state, passed, seeing, with_gates_declared}
 use Rattle.scope_parts.specs.Scope.{gate_at, gates_at}
 use Rattle.scope_parts.specs.Sorts.{variables_at}
 use Rattle.scope_parts.specs.Terms.{TestIs, TestOptionIs, LetIs, OffersAre}
@@ -55,11 +55,6 @@ on_ok (Ok b) P p = p
 on_ok (Err e) P p = tt
 
 -- ---- Forms
-
-pub inner_stands : (s : State) (place : Place) (next : WrittenBehaviour) (o : Resolution Behaviour) → BehaviourStandsFor s next o
-    → BehaviourStandsFor s (written.inner_action place next) (lifted inner_action o)
-inner_stands s place next (resolved b) is = (b, is, refl)
-inner_stands s place next (faulty f) is = is
 
 pub guard_stands : (s : State) (place : Place) (test : WrittenPremiss) (next : WrittenBehaviour) (premiss : Test)
     (o : Resolution Behaviour)
@@ -103,21 +98,21 @@ action_stands s between place gate offers test next number given predicate o at 
     go : (r : Resolution Behaviour)
         → TestOptionIs s.signature (with_variables (asked_variables given) s.scope).variables test (resolved predicate)
         → BehaviourIs s.signature (with_variables (asked_variables given) s.scope)
-        (past_variables (length (asked_for offers)) (numbers_at s)) next r
+        (past_variables (length (asked_for offers)) (next_numbers_at s)) next r
         → BehaviourStandsFor s (written.action place gate offers test next) (lifted (action number given predicate) r)
     go (resolved b) here is = (number, at, (given, first, (predicate, here, (b, is, refl))))
     go (faulty f) here is = inr (number, at, inr (given, first, inr (predicate, here, is)))
 
 pub hide_stands : (s between : State) (place : Place) (gates : List PlacedName) (inside : WrittenBehaviour) (hidden : List ℕ)
-    (o : Resolution Behaviour) → hidden ≡ numbers_from (length s.names) (each_once (spelled gates))
-    → between ≡ with_gates_declared (each_once (spelled gates)) s → BehaviourStandsFor between inside o
+    (o : Resolution Behaviour) → hidden ≡ numbers_from (length s.names) (each_once (spelled_names gates))
+    → between ≡ with_gates_declared (each_once (spelled_names gates)) s → BehaviourStandsFor between inside o
     → BehaviourStandsFor s (written.hide place gates inside) (lifted (hide hidden) o)
 hide_stands s between place gates inside hidden o numbers are stands =
-    go o (stands_declared s between (each_once (spelled gates)) inside o are stands)
+    go o (stands_declared s between (each_once (spelled_names gates)) inside o are stands)
   where
     go : (r : Resolution Behaviour)
-        → BehaviourIs s.signature (with_gates (each_once (spelled gates)) (length s.names) s.scope)
-        (past_gates (length (each_once (spelled gates))) (numbers_at s)) inside r
+        → BehaviourIs s.signature (with_gates (each_once (spelled_names gates)) (length s.names) s.scope)
+        (past_gates (length (each_once (spelled_names gates))) (next_numbers_at s)) inside r
         → BehaviourStandsFor s (written.hide place gates inside) (lifted (hide hidden) r)
     go (resolved b) is = (b, is, ap (λ (ns : List ℕ). hide ns b) numbers)
     go (faulty f) is = is
@@ -132,7 +127,7 @@ let_stands s between place values inside bindings o first are stands =
   where
     go : (r : Resolution Behaviour)
         → BehaviourIs s.signature (with_variables (let_variables bindings) s.scope) (past_variables (length values)
-        (numbers_at s)) inside r
+        (next_numbers_at s)) inside r
         → BehaviourStandsFor s (written.let_be place values inside) (lifted (let_be bindings) r)
     go (resolved b) is = (bindings, first, (b, is, refl))
     go (faulty f) is = inr (bindings, first, is)
@@ -146,7 +141,7 @@ choose_value_stands s between place variables inside chosen o first are stands =
     (declared_of s.signature s.variable variables chosen first).counted stands)
   where
     go : (r : Resolution Behaviour)
-        → BehaviourIs s.signature (with_variables chosen s.scope) (past_variables (length variables) (numbers_at s)) inside r
+        → BehaviourIs s.signature (with_variables chosen s.scope) (past_variables (length variables) (next_numbers_at s)) inside r
         → BehaviourStandsFor s (written.choose_value place variables inside) (lifted (under_values chosen) r)
     go (resolved b) is = (chosen, first, (b, is, refl))
     go (faulty f) is = inr (chosen, first, is)
@@ -154,11 +149,11 @@ choose_value_stands s between place variables inside chosen o first are stands =
 stands_chosen : (s between : State) (gates : List WrittenGateChoice) (inside : WrittenBehaviour) (o : Resolution Behaviour)
     → between ≡ with_gates_declared (choice_names gates) s → BehaviourStandsFor between inside o
     → BehaviourIs s.signature (with_gates (choice_names gates) (length s.names) s.scope)
-    (past_gates (length gates) (numbers_at s)) inside o
+    (past_gates (length gates) (next_numbers_at s)) inside o
 stands_chosen s between gates inside o are stands =
     subst
     (λ (n : ℕ). BehaviourIs s.signature
-    (with_gates (choice_names gates) (length s.names) s.scope) (past_gates n (numbers_at s)) inside o)
+    (with_gates (choice_names gates) (length s.names) s.scope) (past_gates n (next_numbers_at s)) inside o)
     (length_names gates) (stands_declared s between (choice_names gates) inside o are stands)
 
 pub choose_gate_stands : (s between : State) (place : Place) (gates : List WrittenGateChoice) (inside : WrittenBehaviour)
@@ -170,7 +165,7 @@ choose_gate_stands s between place gates inside choices o first are stands =
   where
     go : (r : Resolution Behaviour)
         → BehaviourIs s.signature (with_gates (choice_names gates) (length s.names) s.scope)
-        (past_gates (length gates) (numbers_at s)) inside r
+        (past_gates (length gates) (next_numbers_at s)) inside r
         → BehaviourStandsFor s (written.choose_gate place gates inside) (lifted (under_gates choices) r)
     go (resolved b) is = (choices, first, (b, is, refl))
     go (faulty f) is = inr (choices, first, is)
@@ -185,7 +180,7 @@ par_gate_stands s between place gates sign inside pars o first are stands =
   where
     go : (r : Resolution Behaviour)
         → BehaviourIs s.signature (with_gates (choice_names gates) (length s.names) s.scope)
-        (past_gates (length gates) (numbers_at s)) inside r
+        (past_gates (length gates) (next_numbers_at s)) inside r
         → BehaviourStandsFor s (written.par_gate place gates sign inside) (lifted (under_par pars) r)
     go (resolved b) is = (pars, first, (b, is, refl))
     go (faulty f) is = inr (pars, first, is)
@@ -261,11 +256,11 @@ offers_fault s place gate offers test next number result fault at is means =
 -- what stands on the right of a sign
 abbrev pub SignStands : State → WrittenSign → Behaviour → WrittenBehaviour → Resolution Behaviour → Type 0
 SignStands s sign left right =
-    SignIs s.signature s.scope (numbers_at s) sign left (λ inside behind. BehaviourIs s.signature inside behind right)
+    SignIs s.signature s.scope (next_numbers_at s) sign left (λ inside behind. BehaviourIs s.signature inside behind right)
 
 pub made_stands : (s : State) (right : WrittenBehaviour) (f : Behaviour → Behaviour) (o : Resolution Behaviour)
     → BehaviourStandsFor s right o
-    → Made f (BehaviourIs s.signature s.scope (numbers_at s) right) (lifted f o)
+    → Made f (BehaviourIs s.signature s.scope (next_numbers_at s) right) (lifted f o)
 made_stands s right f (resolved b) is = (b, is, refl)
 made_stands s right f (faulty g) is = is
 
@@ -284,7 +279,7 @@ enabling_stands s between accepted left right variables o first are stands =
     (declared_of s.signature s.variable accepted variables first).counted stands)
   where
     go : (r : Resolution Behaviour)
-        → BehaviourIs s.signature (with_variables variables s.scope) (past_variables (length accepted) (numbers_at s)) right r
+        → BehaviourIs s.signature (with_variables variables s.scope) (past_variables (length accepted) (next_numbers_at s)) right r
         → SignStands s (enabling accepted) left right (lifted (enable left variables) r)
     go (resolved b) is = (variables, first, (b, is, refl))
     go (faulty f) is = inr (variables, first, is)
@@ -330,15 +325,15 @@ accept_fault s sign accepted left right result fault same is means =
 
 -- a sign that declares nothing
 pub nothing_accepted : (s new : State) (sign : WrittenSign) (right : WrittenBehaviour) → length (accepted sign) ≡ 0 → new ≡ passed right s
-    → new ≡ behind (gates_in right) (length (accepted sign) + variable_count right) s
+    → new ≡ behind_in_state (gates_in right) (length (accepted sign) + variable_count right) s
 nothing_accepted s new sign right none later =
     let number : variable_count right ≡ length (accepted sign) + variable_count right = omega (arith, none) in
-    later ∙ ap (λ (n : ℕ). behind (gates_in right) n s) number
+    later ∙ ap (λ (n : ℕ). behind_in_state (gates_in right) n s) number
 
 -- the left side, and then the sign with the right one
 sign_passed : (s : State) (left : WrittenBehaviour) (sign : WrittenSign) (first : Behaviour) (right : WrittenBehaviour)
     (o : Resolution Behaviour) → SignStands (passed left s) sign first right o
-    → SignIs s.signature s.scope (past left (numbers_at s)) sign first (λ inside behind. BehaviourIs s.signature inside behind right) o
+    → SignIs s.signature s.scope (past left (next_numbers_at s)) sign first (λ inside behind. BehaviourIs s.signature inside behind right) o
 sign_passed s left sign first right o is =
     subst
     (λ (n : ℕ). SignIs s.signature s.scope
@@ -354,7 +349,7 @@ binary_stands s between place sign left right first o stands are is =
     go o (sign_passed s left sign first right o (subst (λ (b : State). SignStands b sign first right o) are is))
   where
     go : (r : Resolution Behaviour)
-        → SignIs s.signature s.scope (past left (numbers_at s)) sign first
+        → SignIs s.signature s.scope (past left (next_numbers_at s)) sign first
         (λ inside behind. BehaviourIs s.signature inside behind right) r
         → BehaviourStandsFor s (written.binary place sign left right) r
     go (resolved b) h = (first, stands, h)

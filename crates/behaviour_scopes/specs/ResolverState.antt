@@ -29,16 +29,16 @@ nothing_declared signature = record {
 }
 
 -- the numbers that the next gate, variable and process get
-abbrev pub numbers_at : State → Numbers
-numbers_at state = record { gate = length state.names; variable = state.variable; process = state.process }
+abbrev pub next_numbers_at : State → Numbers
+next_numbers_at state = record { gate = length state.names; variable = state.variable; process = state.process }
 
 -- the behaviour is what is written, where this is known
 abbrev pub BehaviourStandsFor : State → WrittenBehaviour → Resolution Behaviour → Type 0
-BehaviourStandsFor state behaviour = BehaviourIs state.signature state.scope (numbers_at state) behaviour
+BehaviourStandsFor state behaviour = BehaviourIs state.signature state.scope (next_numbers_at state) behaviour
 
 -- behind more gates and variables that are visible no more
-abbrev pub behind : List (List ℕ) → ℕ → State → State
-behind names variables state = record {
+abbrev pub behind_in_state : List (List ℕ) → ℕ → State → State
+behind_in_state names variables state = record {
   signature = state.signature;
   names = state.names ++ names;
   scope = state.scope;
@@ -48,7 +48,7 @@ behind names variables state = record {
 
 -- behind a behaviour
 abbrev pub passed : WrittenBehaviour → State → State
-passed behaviour = behind (gates_in behaviour) (variable_count behaviour)
+passed behaviour = behind_in_state (gates_in behaviour) (variable_count behaviour)
 
 -- with more variables, which are visible
 abbrev pub seeing : List Variable → State → State

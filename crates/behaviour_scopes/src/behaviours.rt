@@ -10,7 +10,7 @@ ghost use Rattle.scope_parts.specs.FaultView.{Answers};
 ghost use Rattle.scope_parts.specs.Numbering.{accepted, gates_in, variable_count};
 ghost use Rattle.behaviour_scopes.specs.Places.{places_written};
 ghost use Rattle.behaviour_scopes.specs.PlacesView.{places_in};
-ghost use Rattle.behaviour_scopes.specs.ResolverState.{BehaviourStandsFor, behind, numbers_at, passed};
+ghost use Rattle.behaviour_scopes.specs.ResolverState.{BehaviourStandsFor, behind_in_state, next_numbers_at, passed};
 ghost use Rattle.std.specs.Prelude.{
   ◌≡◌,
   ◌+◌,
@@ -24,15 +24,15 @@ ghost use Rattle.std.specs.Prelude.{
   option_map,
 };
 ghost use Rattle.syntax_trees.specs.TreeViews.{
-  behaviour_of as written_behaviour,
-  exit_value_of,
+  written_behaviour_of as written_behaviour,
+  written_exit_value_of,
   gate_choices_of,
   lets_of,
-  offer_of,
+  written_offer_of,
   placed_names_of,
   premiss_of,
   sign_of,
-  variables_of,
+  written_variables_of,
 };
 ghost use Rattle.syntax_trees.specs.WrittenBehaviour as written;
 
@@ -107,7 +107,7 @@ impl Resolver<'_> {
     // An `exit`.
     fn exit(&self, alloc: Global, place: Place, values: &Vec<ExitText>) -> Result<Beh, ScopeFault>
         ensures read { Answers behaviour_of result (BehaviourStandsFor (state_in self.now)
-            (written.exit (text_place_of place) (map exit_value_of values.now.items))) }
+            (written.exit (text_place_of place) (map written_exit_value_of values.now.items))) }
         ensures profiles { IfOk result (λ b. AreTermsOf (state_in self.now).signature
             (profiles_in b)) }
         ensures places { IfOk result (λ b. places_in b ≡ []) }
@@ -153,11 +153,11 @@ impl Resolver<'_> {
     ) -> Result<Beh, ScopeFault>
         ensures read { Answers behaviour_of result (BehaviourStandsFor (state_in self.old)
             (written.action (text_place_of place) (spelling gate.now)
-            (map offer_of offers.now.items) (option_map premiss_of test.now)
+            (map written_offer_of offers.now.items) (option_map premiss_of test.now)
             (written_behaviour next.now))) }
         ensures passed { OnOk result (state_in self.new
             ≡ passed (written.action (text_place_of place) (spelling gate.now)
-            (map offer_of offers.now.items) (option_map premiss_of test.now)
+            (map written_offer_of offers.now.items) (option_map premiss_of test.now)
             (written_behaviour next.now)) (state_in self.old)) }
         ensures profiles { IfOk result (λ b. AreTermsOf (state_in self.old).signature
             (profiles_in b)) }
@@ -250,11 +250,11 @@ impl Resolver<'_> {
         inside: &BehText,
     ) -> Result<Beh, ScopeFault>
         ensures read { Answers behaviour_of result (BehaviourStandsFor (state_in self.old)
-            (written.choose_value (text_place_of place) (variables_of variables.now.items)
+            (written.choose_value (text_place_of place) (written_variables_of variables.now.items)
             (written_behaviour inside.now))) }
         ensures passed { OnOk result (state_in self.new
             ≡ passed (written.choose_value (text_place_of place)
-            (variables_of variables.now.items) (written_behaviour inside.now))
+            (written_variables_of variables.now.items) (written_behaviour inside.now))
             (state_in self.old)) }
         ensures profiles { IfOk result (λ b. AreTermsOf (state_in self.old).signature
             (profiles_in b)) }
@@ -337,11 +337,11 @@ impl Resolver<'_> {
         left: Rc<Beh>,
     ) -> Result<Beh, ScopeFault>
         ensures read { Answers behaviour_of result (SignIs (state_in self.old).signature
-            (state_in self.old).scope (numbers_at (state_in self.old)) (sign_of sign.now)
-            (behaviour_of left.value) (λ inside behind. BehaviourIs
-            (state_in self.old).signature inside behind (written_behaviour right.now))) }
+            (state_in self.old).scope (next_numbers_at (state_in self.old)) (sign_of sign.now)
+            (behaviour_of left.value) (λ inside behind_in_state. BehaviourIs
+            (state_in self.old).signature inside behind_in_state (written_behaviour right.now))) }
         ensures passed { OnOk result (state_in self.new
-            ≡ behind (gates_in (written_behaviour right.now))
+            ≡ behind_in_state (gates_in (written_behaviour right.now))
             (length (accepted (sign_of sign.now))
             + variable_count (written_behaviour right.now)) (state_in self.old)) }
         ensures profiles { AreTermsOf (state_in self.old).signature (profiles_in left.value)

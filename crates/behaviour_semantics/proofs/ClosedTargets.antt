@@ -6,7 +6,7 @@ use Rattle.std.proofs.lemmas.List.{append-nil}
 use Rattle.lotos_base.proofs.Options.{mapped, chained}
 use Rattle.lotos_base.specs.Signature.{Signature}
 use Rattle.lotos_base.specs.Term.{Term}
-use Rattle.lotos_base.specs.Sorting.{sort_of, IsGroundOf}
+use Rattle.lotos_base.specs.Sorting.{head_sort_of, IsGroundOf}
 use Rattle.lotos_base.specs.Equation.{Data, Variable}
 use Rattle.lotos_base.specs.Substitution.{Substitution, is_listed}
 use Rattle.lotos_base.proofs.SubstitutionLemmas.{no_variable_ground}
@@ -14,7 +14,7 @@ use Rattle.lotos_base.proofs.SortLemmas.{sort_of_sorted}
 use Rattle.behaviour_semantics.specs.Behaviour.{Behaviour, stop, exit_with, action, inner_action, guard, choice, parallel, hide, enable, disable, let_be, choose_value, choose_gate, par_gate, call, relabel, Offer, give, ask, ExitValue, exit_value, any_of, SynchronisationSet, Process, Specification, Relabelling, asked_variables, open_sorts, sorts_of, let_variables, let_terms}
 use Rattle.behaviour_semantics.specs.Label.{Label, inner_event, gate_event, exit_event, label_under, gate_under, under}
 use Rattle.behaviour_semantics.specs.Replacement.{with_values, binding_of}
-use Rattle.behaviour_semantics.specs.Rule.{offered, results_of, moves_alone, is_same_sort, have_sorts, move_together, label_values, pairwise, hidden_label, is_exit, still_disabled, copies, AreValues}
+use Rattle.behaviour_semantics.specs.Rule.{offered, results_of, moves_alone, is_same_known_sort, have_sorts, move_together, label_values, pairwise, hidden_label, is_exit, still_disabled, copies, AreValues}
 use Rattle.behaviour_semantics.specs.Shape.{Shape, act, quit, inner_step, guarded, left_side, right_side, both_sides, hidden, enabled, passed, let_bound, with_value, at_gate, called, relabelled, Derivation}
 use Rattle.behaviour_semantics.specs.Move.{Setting, Move, move_of, taken, opened, alone, together, passing, enabling, disabling, hiding, asking, relabelling, after_leaf, act_move, quit_move, inner_move, guarded_move, left_move, right_move, both_move, hidden_move, enabled_move, passed_move, let_move, value_move, gate_move, called_move, relabelled_move}
 use Rattle.behaviour_semantics.specs.Derives.{GivesMove, leaves_in}
@@ -35,7 +35,7 @@ IsValue signature v = (sort : ℕ) × IsGroundOf signature sort v
 pub ground_of : (signature : Signature) (s : ℕ) (t : Term) → IsTermIn signature [] s t → IsGroundOf signature s t
 ground_of signature s t h = record { ground = no_variable_ground t (λ n r o. absurd (cc (h.bound n r o))); sorted = h.sorted }
 
-pub same_sort : (o : Option ℕ) (s : ℕ) → is_same_sort o (Some s) ≡ true → o ≡ Some s
+pub same_sort : (o : Option ℕ) (s : ℕ) → is_same_known_sort o (Some s) ≡ true → o ≡ Some s
 same_sort None s e = absurd (cc e)
 same_sort (Some r) s e = ap (λ (n : ℕ). Some n) (eqb-true r s e)
 
@@ -80,11 +80,11 @@ module _ (signature : Signature) (represent : Term → Term) (keeps : KeepsGroun
       → have_sorts signature values (sorts_of variables) ≡ true → AreValues signature (sorts_of variables) values
   sorted_values [] [] h e = tt
   sorted_values (v ∷ values) (x ∷ variables) h e =
-      let known : sort_of signature v ≡ Some x.sort = same_sort (sort_of signature v) x.sort
-      (first_so (is_same_sort (sort_of signature v) (Some x.sort)) _ e) in
+      let known : head_sort_of signature v ≡ Some x.sort = same_sort (head_sort_of signature v) x.sort
+      (first_so (is_same_known_sort (head_sort_of signature v) (Some x.sort)) _ e) in
       let same : h.0.0 ≡ x.sort = some_value (sym (sort_of_sorted signature v h.0.0 h.0.1.sorted) ∙ known) in (
         subst (λ (s : ℕ). IsGroundOf signature s v) same h.0.1,
-        sorted_values values variables h.1 (second_so (is_same_sort (sort_of signature v) (Some x.sort)) _ e),
+        sorted_values values variables h.1 (second_so (is_same_known_sort (head_sort_of signature v) (Some x.sort)) _ e),
       )
   sorted_values [] (x ∷ variables) h e = absurd (cc e)
   sorted_values (v ∷ values) [] h e = absurd (cc e)

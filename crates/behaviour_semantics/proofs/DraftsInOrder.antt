@@ -30,7 +30,7 @@ label_values-with values (gate_event g ts) = refl
 label_values-with values (exit_event ts) = refl
 
 -- Putting terms in is a change of each term.
-label_with-in : (values : Substitution) (label : Label) → label_in (substituted values) label ≡ label_with values label
+pub label_with-in : (values : Substitution) (label : Label) → label_in (substituted values) label ≡ label_with values label
 label_with-in values inner_event = refl
 label_with-in values (gate_event g ts) = refl
 label_with-in values (exit_event ts) = refl

@@ -98,7 +98,7 @@ module _ (data_ : Data) (base : ℕ) where
       equal_labels (both_exit_events sorts r) = equal_values r
 
 -- Values that have two lists of sorts have one list.
-one_list : (signature : Signature) (sorts others : List ℕ) (vs : List Term) → AreValues signature sorts vs
+pub one_list : (signature : Signature) (sorts others : List ℕ) (vs : List Term) → AreValues signature sorts vs
     → AreValues signature others vs → sorts ≡ others
 one_list signature [] [] vs g h = refl
 one_list signature (s ∷ sorts) (r ∷ others) (v ∷ vs) g h =

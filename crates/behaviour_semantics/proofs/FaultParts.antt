@@ -6,7 +6,7 @@ use Rattle.lotos_base.proofs.Options.{mapped, chained}
 use Rattle.lotos_base.specs.Signature.{Signature}
 use Rattle.lotos_base.specs.Term.{Term}
 use Rattle.lotos_base.specs.Tests.{term_eq}
-use Rattle.lotos_base.specs.Sorting.{sort_of, IsGroundOf}
+use Rattle.lotos_base.specs.Sorting.{head_sort_of, IsGroundOf}
 use Rattle.lotos_base.specs.Equation.{Data}
 use Rattle.lotos_base.specs.Equality.{Equal}
 use Rattle.lotos_base.specs.Canon.{IsCanon}
@@ -16,7 +16,7 @@ use Rattle.lotos_base.proofs.SortLemmas.{sort_of_sorted}
 use Rattle.lotos_base.proofs.CanonLemmas.{canon_tells}
 use Rattle.behaviour_semantics.specs.Behaviour.{Test}
 use Rattle.behaviour_semantics.specs.Label.{Label}
-use Rattle.behaviour_semantics.specs.Rule.{is_same_sort, have_same_sorts, pairwise, AllHold}
+use Rattle.behaviour_semantics.specs.Rule.{is_same_known_sort, have_same_sorts, pairwise, AllHold}
 use Rattle.behaviour_semantics.specs.Move.{Move}
 use Rattle.behaviour_semantics.specs.Derives.{leaves_in}
 use Rattle.behaviour_semantics.specs.WellFormed.{Every}
@@ -100,9 +100,9 @@ module _ (data_ : Data) (canon : Term → Term) (is_canon : IsCanon data_ canon)
 
 -- The pairs of two lists of values of the same sorts.
 known_sorts : (signature : Signature) (t u : Term) (s r : ℕ) → IsGroundOf signature s t → IsGroundOf signature r u
-    → is_same_sort (sort_of signature t) (sort_of signature u) ≡ true → s ≡ r
+    → is_same_known_sort (head_sort_of signature t) (head_sort_of signature u) ≡ true → s ≡ r
 known_sorts signature t u s r g h e =
-    let same : is_same_sort (Some s) (Some r) ≡ true = rw (
+    let same : is_same_known_sort (Some s) (Some r) ≡ true = rw (
       sort_of_sorted signature t s g.sorted,
       sort_of_sorted signature u r h.sorted,
     ) at e in
@@ -114,9 +114,9 @@ pairs_ground signature [] us h k e = tt
 pairs_ground signature (t ∷ ts) [] h k e = tt
 pairs_ground signature (t ∷ ts) (u ∷ us) h k e =
     let same : h.0.0 ≡ k.0.0 = known_sorts signature t u h.0.0 k.0.0 h.0.1 k.0.1
-    (first_so (is_same_sort (sort_of signature t) (sort_of signature u)) (have_same_sorts signature ts us) e) in (
+    (first_so (is_same_known_sort (head_sort_of signature t) (head_sort_of signature u)) (have_same_sorts signature ts us) e) in (
       (k.0.0, subst (λ (s : ℕ). IsGroundOf signature s t) same h.0.1, k.0.1),
-      pairs_ground signature ts us h.1 k.1 (second_so (is_same_sort (sort_of signature t) (sort_of signature u))
+      pairs_ground signature ts us h.1 k.1 (second_so (is_same_known_sort (head_sort_of signature t) (head_sort_of signature u))
           (have_same_sorts signature ts us) e),
     )
 

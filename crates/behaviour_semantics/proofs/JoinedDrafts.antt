@@ -4,14 +4,14 @@ use Rattle.std.proofs.lemmas.List.{map-append}
 use Rattle.std.proofs.Math.Nat.{le_refl}
 use Rattle.lotos_base.specs.Signature.{Signature}
 use Rattle.lotos_base.specs.Term.{Term, variable, node}
-use Rattle.lotos_base.specs.Sorting.{sort_of}
+use Rattle.lotos_base.specs.Sorting.{head_sort_of}
 use Rattle.lotos_base.specs.Equation.{Data}
 use Rattle.lotos_base.specs.Substitution.{Substitution, substituted, followed_by, renaming}
 use Rattle.lotos_base.proofs.SubstitutionLemmas.{substituted_twice, substituted_agree}
 use Rattle.behaviour_semantics.specs.Behaviour.{Behaviour, parallel, Test, SynchronisationSet, all_gates, Specification}
 use Rattle.behaviour_semantics.specs.Label.{Label, inner_event, gate_event, exit_event}
 use Rattle.behaviour_semantics.specs.Replacement.{test_with}
-use Rattle.behaviour_semantics.specs.Rule.{is_same_sort, synchronises, have_same_sorts, move_together, label_values, pairwise}
+use Rattle.behaviour_semantics.specs.Rule.{is_same_known_sort, synchronises, have_same_sorts, move_together, label_values, pairwise}
 use Rattle.behaviour_semantics.specs.Shape.{Shape, both_sides}
 use Rattle.behaviour_semantics.specs.Move.{Move, taken, together}
 use Rattle.behaviour_semantics.specs.Draft.{Draft, draft_of, draft_by, draft_with, label_with, leaves_from, numbered_from_zero, above, above_processes, first_apart}
@@ -27,7 +27,7 @@ use Rattle.behaviour_semantics.proofs.RaisedDrafts.{later_leaf, same_drafts}
 
 -- Renamed values have the sorts that they had.
 module _ (signature : Signature) where
-  sort_renamed : (f : ℕ → ℕ → ℕ) (t : Term) → sort_of signature (substituted (renaming f) t) ≡ sort_of signature t
+  sort_renamed : (f : ℕ → ℕ → ℕ) (t : Term) → head_sort_of signature (substituted (renaming f) t) ≡ head_sort_of signature t
   sort_renamed f (variable n s) = refl
   sort_renamed f (node g ts) = refl
 
@@ -37,9 +37,10 @@ module _ (signature : Signature) where
   right_renamed f [] (u ∷ us) = refl
   right_renamed f (t ∷ ts) [] = refl
   right_renamed f (t ∷ ts) (u ∷ us) =
-      ap (λ (o : Option ℕ). is_same_sort (sort_of signature t) o && have_same_sorts signature ts (map (substituted (renaming f)) us))
+      ap (λ (o : Option ℕ). is_same_known_sort (head_sort_of signature t) o
+      && have_same_sorts signature ts (map (substituted (renaming f)) us))
       (sort_renamed f u)
-      ∙ ap (λ (b : Bool). is_same_sort (sort_of signature t) (sort_of signature u) && b) (right_renamed f ts us)
+      ∙ ap (λ (b : Bool). is_same_known_sort (head_sort_of signature t) (head_sort_of signature u) && b) (right_renamed f ts us)
 
   left_renamed : (f : ℕ → ℕ → ℕ) (ts us : List Term) → have_same_sorts signature (map (substituted (renaming f)) ts) us
       ≡ have_same_sorts signature ts us
@@ -47,9 +48,10 @@ module _ (signature : Signature) where
   left_renamed f [] (u ∷ us) = refl
   left_renamed f (t ∷ ts) [] = refl
   left_renamed f (t ∷ ts) (u ∷ us) =
-      ap (λ (o : Option ℕ). is_same_sort o (sort_of signature u) && have_same_sorts signature (map (substituted (renaming f)) ts) us)
+      ap (λ (o : Option ℕ). is_same_known_sort o (head_sort_of signature u)
+      && have_same_sorts signature (map (substituted (renaming f)) ts) us)
       (sort_renamed f t)
-      ∙ ap (λ (b : Bool). is_same_sort (sort_of signature t) (sort_of signature u) && b) (left_renamed f ts us)
+      ∙ ap (λ (b : Bool). is_same_known_sort (head_sort_of signature t) (head_sort_of signature u) && b) (left_renamed f ts us)
 
   together_right : (f : ℕ → ℕ → ℕ) (meet : SynchronisationSet) (label other : Label)
       → move_together signature meet label (label_with (renaming f) other) ≡ move_together signature meet label other

@@ -5,13 +5,13 @@ use Rattle.std.proofs.lemmas.Bool.{and_parts}
 use Rattle.lotos_base.proofs.Members.{at_front, at_map, from_map}
 use Rattle.lotos_base.specs.Signature.{Signature}
 use Rattle.lotos_base.specs.Term.{Term, variable, node}
-use Rattle.lotos_base.specs.Sorting.{HasSort, sort_of}
+use Rattle.lotos_base.specs.Sorting.{HasSort, head_sort_of}
 use Rattle.lotos_base.specs.Substitution.{substituted}
 use Rattle.lotos_base.proofs.SortLemmas.{sort_of_sorted}
 use Rattle.lotos_base.proofs.SubstitutionLemmas.{ComesFrom, substituted_occurs, substituted_sort}
 use Rattle.behaviour_semantics.specs.Behaviour.{Test, all_gates}
 use Rattle.behaviour_semantics.specs.Label.{Label, inner_event, gate_event, exit_event}
-use Rattle.behaviour_semantics.specs.Rule.{is_same_sort, have_same_sorts, move_together, label_values, pairwise}
+use Rattle.behaviour_semantics.specs.Rule.{is_same_known_sort, have_same_sorts, move_together, label_values, pairwise}
 use Rattle.behaviour_semantics.specs.Draft.{Draft}
 use Rattle.behaviour_semantics.specs.Solving.{canonical, label_in, test_in}
 use Rattle.behaviour_semantics.specs.Join.{both_drafts, raised}
@@ -86,9 +86,9 @@ module _ (signature : Signature) (left right : Draft) (left_order : IsInOrder si
   right_tests (test ∷ tests) h = ((h.0.0, right_term h.0.0 test.left h.0.1, right_term h.0.0 test.right h.0.2), right_tests tests h.1)
 
   one_sort_of : (t u : Term) (r s : ℕ) → HasSort signature t r → HasSort signature u s
-      → is_same_sort (sort_of signature t) (sort_of signature u) ≡ true → s ≡ r
+      → is_same_known_sort (head_sort_of signature t) (head_sort_of signature u) ≡ true → s ≡ r
   one_sort_of t u r s h k same =
-      let known : is_same_sort (Some r) (Some s) ≡ true = (λ i. is_same_sort (sym (sort_of_sorted signature t r h) i)
+      let known : is_same_known_sort (Some r) (Some s) ≡ true = (λ i. is_same_known_sort (sym (sort_of_sorted signature t r h) i)
       (sym (sort_of_sorted signature u s k) i)) ∙ same in
       sym (eqb-true r s known)
 
@@ -100,7 +100,8 @@ module _ (signature : Signature) (left right : Draft) (left_order : IsInOrder si
   pairs [] us h k same = tt
   pairs (t ∷ ts) [] h k same = tt
   pairs (t ∷ ts) (u ∷ us) h k same =
-      let both : _ × _ = and_parts (is_same_sort (sort_of signature t) (sort_of signature u)) (have_same_sorts signature ts us) same in
+      let both : _ × _ =
+      and_parts (is_same_known_sort (head_sort_of signature t) (head_sort_of signature u)) (have_same_sorts signature ts us) same in
       let sort : k.0.0 ≡ h.0.0 = one_sort_of t u h.0.0 k.0.0 h.0.1.sorted k.0.1.sorted both.0 in
       let other : HasLeafVariables signature (left.leaves ++ map (substituted (raised (length left.leaves))) right.leaves) h.0.0
       (substituted (raised (length left.leaves)) u) =

@@ -13,7 +13,7 @@ use Rattle.lotos_base.proofs.SubstitutionLemmas.{ComesFrom, substituted_occurs, 
 use Rattle.behaviour_semantics.specs.Behaviour.{Test}
 use Rattle.behaviour_semantics.specs.Rule.{label_values, pairwise}
 use Rattle.behaviour_semantics.specs.Draft.{Draft, draft_with}
-use Rattle.behaviour_semantics.specs.Solving.{entry_of, variables_left, place_of, test_in, canonical, tidied}
+use Rattle.behaviour_semantics.specs.Solving.{entry_of, variables_left, place_of_number, test_in, canonical, tidied}
 use Rattle.behaviour_semantics.specs.Join.{both_drafts, raised}
 use Rattle.behaviour_semantics.specs.WellFormed.{Every}
 use Rattle.behaviour_semantics.specs.DraftOrder.{IsLeaf, IsDraftTerm, IsInOrder, as_draft}
@@ -64,35 +64,40 @@ each_changed P Q f w draft h = record {
 -- The places of variables keep their order, and are fewer than the leaves.
 module _ (data_ : Data) (draft : Draft) (order : IsInOrder data_.signature draft) where
   pub place : ℕ → ℕ
-  place n = place_of 0 (variables_left 0 draft.leaves draft.leaves) n
+  place n = place_of_number 0 (variables_left 0 draft.leaves draft.leaves) n
 
   place_rises : (n m r s : ℕ) → IsLeaf draft.leaves n r → IsLeaf draft.leaves m s → n < m
-      → place_of 0 (variables_left 0 draft.leaves draft.leaves) n < place_of 0 (variables_left 0 draft.leaves draft.leaves) m
-  place_rises n m r s leaf other lt = by (cases_order (place_of 0 (variables_left 0 draft.leaves draft.leaves) n)
-      (place_of 0 (variables_left 0 draft.leaves draft.leaves) m))
+      → place_of_number 0 (variables_left 0 draft.leaves draft.leaves) n < place_of_number 0 (variables_left 0 draft.leaves draft.leaves) m
+  place_rises n m r s leaf other lt = by (cases_order (place_of_number 0 (variables_left 0 draft.leaves draft.leaves) n)
+      (place_of_number 0 (variables_left 0 draft.leaves draft.leaves) m))
     where
       number_at : (k q : ℕ) → IsLeaf draft.leaves k q → slice_get (map (λ (v : ℕ × ℕ). v.0)
-          (variables_left 0 draft.leaves draft.leaves)) (place_of 0 (variables_left 0 draft.leaves draft.leaves) k) ≡ Some k
+          (variables_left 0 draft.leaves draft.leaves)) (place_of_number 0 (variables_left 0 draft.leaves draft.leaves) k) ≡ Some k
       number_at k q l = at_map (λ (v : ℕ × ℕ). v.0) (variables_left 0 draft.leaves draft.leaves)
-          (place_of 0 (variables_left 0 draft.leaves draft.leaves) k) (k, q) (placed draft.leaves order.below order.one_sort k q l)
+          (place_of_number 0 (variables_left 0 draft.leaves draft.leaves) k) (k, q) (placed draft.leaves order.below order.one_sort k q l)
 
-      by : (place_of 0 (variables_left 0 draft.leaves draft.leaves) n ≡ place_of 0 (variables_left 0 draft.leaves draft.leaves) m)
-          ⊎ ((place_of 0 (variables_left 0 draft.leaves draft.leaves) n < place_of 0 (variables_left 0 draft.leaves draft.leaves) m)
-          ⊎ (place_of 0 (variables_left 0 draft.leaves draft.leaves) m < place_of 0 (variables_left 0 draft.leaves draft.leaves) n))
-          → place_of 0 (variables_left 0 draft.leaves draft.leaves) n < place_of 0 (variables_left 0 draft.leaves draft.leaves) m
+      by : (place_of_number 0 (variables_left 0 draft.leaves draft.leaves) n
+          ≡ place_of_number 0 (variables_left 0 draft.leaves draft.leaves) m)
+          ⊎ ((place_of_number 0 (variables_left 0 draft.leaves draft.leaves) n
+          < place_of_number 0 (variables_left 0 draft.leaves draft.leaves) m)
+          ⊎ (place_of_number 0 (variables_left 0 draft.leaves draft.leaves) m
+          < place_of_number 0 (variables_left 0 draft.leaves draft.leaves) n))
+          → place_of_number 0 (variables_left 0 draft.leaves draft.leaves) n
+          < place_of_number 0 (variables_left 0 draft.leaves draft.leaves) m
       by (inl same) = let equal : n ≡ m = places_apart draft.leaves order.below order.one_sort n m r s leaf other same in
           absurd (omega (arith, lt, equal))
       by (inr (inl less)) = less
       by (inr (inr more)) =
           let back : m < n = rising_at 0 (variables_left 0 draft.leaves draft.leaves) (left_rises 0 draft.leaves draft.leaves)
-          (place_of 0 (variables_left 0 draft.leaves draft.leaves) m)
-          (place_of 0 (variables_left 0 draft.leaves draft.leaves) n) m n more (number_at m s other) (number_at n r leaf) in
+          (place_of_number 0 (variables_left 0 draft.leaves draft.leaves) m)
+          (place_of_number 0 (variables_left 0 draft.leaves draft.leaves) n) m n more (number_at m s other) (number_at n r leaf) in
           absurd (omega (arith, lt, back))
 
-  place_below : (n s : ℕ) → IsLeaf draft.leaves n s → place_of 0 (variables_left 0 draft.leaves draft.leaves) n < length draft.leaves
+  place_below : (n s : ℕ) → IsLeaf draft.leaves n s → place_of_number 0 (variables_left 0 draft.leaves draft.leaves) n < length draft.leaves
   place_below n s leaf =
-      let lt : place_of 0 (variables_left 0 draft.leaves draft.leaves) n < length (variables_left 0 draft.leaves draft.leaves) =
-      slice_get_within (variables_left 0 draft.leaves draft.leaves) (place_of 0 (variables_left 0 draft.leaves draft.leaves) n) (n, s)
+      let lt : place_of_number 0 (variables_left 0 draft.leaves draft.leaves) n < length (variables_left 0 draft.leaves draft.leaves) =
+      slice_get_within (variables_left 0 draft.leaves draft.leaves)
+      (place_of_number 0 (variables_left 0 draft.leaves draft.leaves) n) (n, s)
       (placed draft.leaves order.below order.one_sort n s leaf) in
       let le : length (variables_left 0 draft.leaves draft.leaves) ≤ length draft.leaves = left_length 0 draft.leaves draft.leaves in
       omega (arith, lt, le)
@@ -109,34 +114,36 @@ module _ (data_ : Data) (canon : Term → Term) (is_canon : IsCanon data_ canon)
 
   -- the numbers that they have in the entries, those of the right one higher again
   abbrev number : ℕ → ℕ
-  number n = if nat_lt n (length left.leaves) then place_of 0 (variables_left 0 left.leaves left.leaves) n else
-      place_of 0 (variables_left 0 right.leaves right.leaves) (n - length left.leaves) + length left.leaves
+  number n = if nat_lt n (length left.leaves) then place_of_number 0 (variables_left 0 left.leaves left.leaves) n else
+      place_of_number 0 (variables_left 0 right.leaves right.leaves) (n - length left.leaves) + length left.leaves
 
-  on_left : (n : ℕ) → n < length left.leaves → number n ≡ place_of 0 (variables_left 0 left.leaves left.leaves) n
-  on_left n lt = ap (λ (b : Bool). if b then place_of 0 (variables_left 0 left.leaves left.leaves) n else
-      place_of 0 (variables_left 0 right.leaves right.leaves) (n - length left.leaves) + length left.leaves)
+  on_left : (n : ℕ) → n < length left.leaves → number n ≡ place_of_number 0 (variables_left 0 left.leaves left.leaves) n
+  on_left n lt = ap (λ (b : Bool). if b then place_of_number 0 (variables_left 0 left.leaves left.leaves) n else
+      place_of_number 0 (variables_left 0 right.leaves right.leaves) (n - length left.leaves) + length left.leaves)
       (lt-ltb n (length left.leaves) lt)
 
-  on_right : (m : ℕ) → number (m + length left.leaves) ≡ place_of 0 (variables_left 0 right.leaves right.leaves) m + length left.leaves
+  on_right : (m : ℕ) → number (m + length left.leaves) ≡ place_of_number 0 (variables_left 0 right.leaves right.leaves) m
+      + length left.leaves
   on_right m =
-      ap (λ (b : Bool). if b then place_of 0 (variables_left 0 left.leaves left.leaves) (m + length left.leaves) else
-      place_of 0 (variables_left 0 right.leaves right.leaves) ((m + length left.leaves) - length left.leaves) + length left.leaves)
+      ap (λ (b : Bool). if b then place_of_number 0 (variables_left 0 left.leaves left.leaves) (m + length left.leaves) else
+      place_of_number 0 (variables_left 0 right.leaves right.leaves) ((m + length left.leaves) - length left.leaves) + length left.leaves)
       (le-ltb (m + length left.leaves) (length left.leaves) (let le : length left.leaves ≤ m + length left.leaves = omega arith in le))
-      ∙ ap (λ (k : ℕ). place_of 0 (variables_left 0 right.leaves right.leaves) k + length left.leaves)
+      ∙ ap (λ (k : ℕ). place_of_number 0 (variables_left 0 right.leaves right.leaves) k + length left.leaves)
       (let e : (m + length left.leaves) - length left.leaves ≡ m = omega arith in e)
 
   number_rises : (n m r s : ℕ) → OfBoth n r → OfBoth m s → n < m → number n < number m
   number_rises n m r s (inl (lt, leaf)) (inl (lt', leaf')) less =
-      let here : place_of 0 (variables_left 0 left.leaves left.leaves) n < place_of 0 (variables_left 0 left.leaves left.leaves) m =
+      let here : place_of_number 0 (variables_left 0 left.leaves left.leaves) n
+      < place_of_number 0 (variables_left 0 left.leaves left.leaves) m =
       place_rises data_ left left_done.order n m r s leaf leaf' less in
       omega (arith, here, on_left n lt, on_left m lt')
   number_rises n m r s (inl (lt, leaf)) (inr (k, e, leaf')) less =
-      let here : place_of 0 (variables_left 0 left.leaves left.leaves) n < length left.leaves =
+      let here : place_of_number 0 (variables_left 0 left.leaves left.leaves) n < length left.leaves =
       place_below data_ left left_done.order n r leaf in
       omega (arith, here, on_left n lt, on_right k, ap number e)
   number_rises n m r s (inr (k, e, leaf)) (inl (lt, leaf')) less = absurd (omega (arith, e, lt, less))
   number_rises n m r s (inr (k, e, leaf)) (inr (k', e', leaf')) less =
-      let here : place_of 0 (variables_left 0 right.leaves right.leaves) k < place_of 0
+      let here : place_of_number 0 (variables_left 0 right.leaves right.leaves) k < place_of_number 0
       (variables_left 0 right.leaves right.leaves) k' = place_rises data_ right right_done.order k k' r s leaf leaf'
       (let lt : k < k' = omega (arith, e, e', less) in lt) in
       omega (arith, here, on_right k, on_right k', ap number e, ap number e')

@@ -3,7 +3,7 @@ use Rattle.std.proofs.Common.{◌≡◌, ◌<◌, ◌≤◌, ◌⊎◌, inl, inr
 use Rattle.std.proofs.lemmas.Bool.{cases_order}
 use Rattle.lotos_base.specs.Term.{Term, variable, node}
 use Rattle.lotos_base.specs.Substitution.{is_listed}
-use Rattle.behaviour_semantics.specs.Solving.{leaf_sort, numbered, variables_left, place_of}
+use Rattle.behaviour_semantics.specs.Solving.{leaf_sort, numbered, variables_left, place_of_number}
 use Rattle.behaviour_semantics.specs.DraftOrder.{IsLeaf}
 use Rattle.behaviour_semantics.proofs.OptionLemmas.{some_value}
 
@@ -104,13 +104,13 @@ one_place k kept h i j n at at' = by (cases_order i j)
 -- Where a variable that is left stands in the list of those.
 pub record Place (first n r : ℕ) (kept : List (ℕ × ℕ)) : Type 0 where
   pub at : ℕ
-  pub place : place_of first kept n ≡ first + at
+  pub place : place_of_number first kept n ≡ first + at
   pub here : slice_get kept at ≡ Some (n, r)
 
 skipped : (first n r m s : ℕ) (kept : List (ℕ × ℕ)) → (m ≡ n → ⊥) → Place (suc first) n r kept → Place first n r ((m, s) ∷ kept)
 skipped first n r m s kept apart p = record {
   at = suc p.at;
-  place = (let e : (if nat_eq m n then first else place_of (suc first) kept n) ≡ place_of (suc first) kept n =
+  place = (let e : (if nat_eq m n then first else place_of_number (suc first) kept n) ≡ place_of_number (suc first) kept n =
       rw (ne_eqb m n apart) refl in e) ∙ (p.place ∙ (let e : suc first + p.at ≡ first + suc p.at = omega arith in e));
   here = p.here;
 }
@@ -133,7 +133,7 @@ place_among first k (t ∷ rest) leaves n r le lt found = by (λ f above. place_
         subst (λ (o : Option ℕ). Place first n r (numbered k o (variables_left (suc k) rest leaves))) (sym sort)
         (record {
           at = 0;
-          place = (let h : (if nat_eq k n then first else place_of (suc first) (variables_left (suc k) rest leaves) n) ≡ first =
+          place = (let h : (if nat_eq k n then first else place_of_number (suc first) (variables_left (suc k) rest leaves) n) ≡ first =
               rw (eq-eqb k n same) refl in h) ∙ (let h : first ≡ first + 0 = omega arith in h);
           here = ap (λ (m : ℕ). Some (m, r)) same;
         })
@@ -166,12 +166,12 @@ module _ (leaves : List Term) (below : (n s : ℕ) → IsLeaf leaves n s → n <
 
   -- each variable among the leaves stands in the list, at its place
   pub placed : (n r : ℕ) → IsLeaf leaves n r → slice_get (variables_left 0 leaves leaves)
-      (place_of 0 (variables_left 0 leaves leaves) n) ≡ Some (n, r)
+      (place_of_number 0 (variables_left 0 leaves leaves) n) ≡ Some (n, r)
   placed n r leaf =
       let lt : n < length leaves = below n r leaf in
       let p : Place 0 n r (variables_left 0 leaves leaves) = place_among 0 0 leaves leaves n r (omega arith) (omega arith)
       (sort_found n r leaf) in
-      let place : place_of 0 (variables_left 0 leaves leaves) n ≡ p.at = p.place ∙ (let e : 0 + p.at ≡ p.at = omega arith in e) in
+      let place : place_of_number 0 (variables_left 0 leaves leaves) n ≡ p.at = p.place ∙ (let e : 0 + p.at ≡ p.at = omega arith in e) in
       subst (λ (i : ℕ). slice_get (variables_left 0 leaves leaves) i ≡ Some (n, r)) (sym place) p.here
 
   -- each that stands there is a leaf
@@ -179,7 +179,8 @@ module _ (leaves : List Term) (below : (n s : ℕ) → IsLeaf leaves n s → n <
   is_leaf i v at = leaf_found v.0 v.1 leaves (left_found 0 leaves leaves i v at)
 
   -- different variables have different places
-  pub apart : (n m r q : ℕ) → IsLeaf leaves n r → IsLeaf leaves m q → place_of 0 (variables_left 0 leaves leaves) n ≡ place_of 0
+  pub apart : (n m r q : ℕ) → IsLeaf leaves n r → IsLeaf leaves m q
+      → place_of_number 0 (variables_left 0 leaves leaves) n ≡ place_of_number 0
       (variables_left 0 leaves leaves) m → n ≡ m
   apart n m r q leaf other e =
       let same : (n, r) ≡ (m, q) = some_value (sym (placed n r leaf) ∙ (ap (slice_get (variables_left 0 leaves leaves)) e

@@ -19,11 +19,12 @@ use Rattle.behaviour_semantics.proofs.SolvingAnyDraft.{solving_any}
 use Rattle.behaviour_semantics.proofs.ListedDrafts.{sound_drafts, complete_drafts, drafts_rise}
 
 -- Solving keeps the shape.
-abbrev HasShape : Shape → Option Entry → Type 0
+abbrev pub HasShape : Shape → Option Entry → Type 0
 HasShape shape None = Unit {0}
 HasShape shape (Some entry) = entry.shape ≡ shape
 
-outcome_shape : {canon : Term → Term} {draft : Draft} {outcome : Option Entry} → SolvesTo canon draft outcome → HasShape draft.shape outcome
+pub outcome_shape : {canon : Term → Term} {draft : Draft} {outcome : Option Entry} → SolvesTo canon draft outcome
+    → HasShape draft.shape outcome
 outcome_shape (unsolvable draft closed) = tt
 outcome_shape (settled draft not_closed none) = refl
 outcome_shape (replacing draft found outcome not_closed some rest) = outcome_shape rest

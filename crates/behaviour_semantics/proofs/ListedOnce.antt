@@ -11,7 +11,7 @@ use Rattle.behaviour_semantics.proofs.ListingLemmas.{listed}
 use Rattle.behaviour_semantics.proofs.ListingSoundness.{are_moves}
 use Rattle.behaviour_semantics.proofs.ListingOrder.{Earlier, Rising, RisingIn, moves_rise}
 
-abbrev Inside : List ShapedMove → List ShapedMove → Type 0
+abbrev pub Inside : List ShapedMove → List ShapedMove → Type 0
 Inside xs ys = (x : ShapedMove) → IsAmong x xs → IsAmong x ys
 
 pub same_heads : (x y : ShapedMove) (xs ys : List ShapedMove) → Rising (x ∷ xs) → Rising (y ∷ ys) → IsAmong x (y ∷ ys) → IsAmong y (x ∷ xs)
@@ -28,7 +28,7 @@ behind x y z xs ys heads h a (inl same) =
     absurd (Before-irrefl z.shape (subst (λ (w : ShapedMove). Before w.shape z.shape) (heads ∙ same) (Every-among (Earlier x) xs z h.0 a)))
 behind x y z xs ys heads h a (inr b) = b
 
-same_lists : (xs ys : List ShapedMove) → Rising xs → Rising ys → Inside xs ys → Inside ys xs → xs ≡ ys
+pub same_lists : (xs ys : List ShapedMove) → Rising xs → Rising ys → Inside xs ys → Inside ys xs → xs ≡ ys
 same_lists [] [] h k i j = refl
 same_lists [] (y ∷ ys) h k i j = absurd (j y (inl refl))
 same_lists (x ∷ xs) [] h k i j = absurd (i x (inl refl))

@@ -1,15 +1,10 @@
 -- What a computed option says of its parts.
-use Rattle.std.proofs.Common.{◌≡◌, Option, None, Some, unwrap_or, ap, refl, Bool, true, false, if◌then◌else◌}
+use Rattle.std.proofs.Common.{◌≡◌, None, Some, unwrap_or, ap, refl, Bool, true, false, if◌then◌else◌}
 pub use Rattle.lotos_base.proofs.Options.{mapped, chained}
 
 -- The value of a `Some` is the value.
 pub some_value : {X : Type 0} {x y : X} → Some x ≡ Some y → x ≡ y
 some_value {x = x} e = ap (λ o. unwrap_or o x) e
-
--- No `None` is a `Some`.
-abbrev is_here : {X : Type 0} → Option X → Type 0
-is_here None = ⊥
-is_here (Some x) = Unit {0}
 
 -- Which way a test went that gave a value.
 pub tested : {X : Type 0} (b : Bool) (x : X) {y : X} → (if b then Some x else None) ≡ Some y → (b ≡ true) × (x ≡ y)

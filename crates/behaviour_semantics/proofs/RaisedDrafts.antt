@@ -20,6 +20,7 @@ use Rattle.behaviour_semantics.proofs.EnvironmentLemmas.{closed_stays}
 use Rattle.behaviour_semantics.proofs.SameBehaviours.{low_nothing, same_beside}
 use Rattle.behaviour_semantics.proofs.RaisedTerms.{raise_high}
 use Rattle.behaviour_semantics.proofs.RaisedMoves.{open_side, natural_moves}
+use Rattle.behaviour_semantics.proofs.EveryLemmas.{every_all}
 
 -- Labels and tests with one substitution after another.
 module _ (first second whole : Substitution) where
@@ -41,14 +42,6 @@ module _ (first second whole : Substitution) where
   tests_same_with (test ∷ tests) h =
       let tail : map (test_with second) (map (test_with first) tests) ≡ map (test_with whole) tests = tests_same_with tests h.1 in
       λ i. record { left = h.0.0 i; right = h.0.1 i } ∷ tail i
-
-every_all : {X : Type 0} (P : X → Type 0) → ((x : X) → P x) → (xs : List X) → Every P xs
-every_all P h [] = tt
-every_all P h (x ∷ xs) = (h x, every_all P h xs)
-
-pub every_map : {X : Type 0} (P Q : X → Type 0) → ((x : X) → P x → Q x) → (xs : List X) → Every P xs → Every Q xs
-every_map P Q f [] h = tt
-every_map P Q f (x ∷ xs) h = (f x h.0, every_map P Q f xs h.1)
 
 -- Raised and then numbered from zero is numbered from zero.
 module _ (base shift : ℕ) where

@@ -4,7 +4,7 @@ use Rattle.std.proofs.Math.Path.{fun_ext}
 use Rattle.std.proofs.lemmas.Bool.{ne_eqb}
 use Rattle.lotos_base.specs.Signature.{Signature}
 use Rattle.lotos_base.specs.Term.{Term, variable, node}
-use Rattle.lotos_base.specs.Sorting.{sort_of, IsTermOf, Occurs}
+use Rattle.lotos_base.specs.Sorting.{head_sort_of, IsTermOf, Occurs}
 use Rattle.lotos_base.specs.Equation.{Data, Variable}
 use Rattle.lotos_base.specs.Canon.{IsCanon, KeepsApart}
 use Rattle.lotos_base.specs.Substitution.{Substitution, substituted, followed_by, is_listed, without}
@@ -12,7 +12,7 @@ use Rattle.lotos_base.proofs.SubstitutionLemmas.{substituted_twice}
 use Rattle.behaviour_semantics.specs.Behaviour.{Behaviour, Test, SynchronisationSet, numbers_of}
 use Rattle.behaviour_semantics.specs.Label.{Label, inner_event, gate_event, exit_event}
 use Rattle.behaviour_semantics.specs.Replacement.{test_with, with_values, binding_of}
-use Rattle.behaviour_semantics.specs.Rule.{is_same_sort, synchronises, moves_alone, have_sorts, have_same_sorts, move_together, pairwise, is_exit}
+use Rattle.behaviour_semantics.specs.Rule.{is_same_known_sort, synchronises, moves_alone, have_sorts, have_same_sorts, move_together, pairwise, is_exit}
 use Rattle.behaviour_semantics.specs.Draft.{above, label_with}
 use Rattle.behaviour_semantics.specs.Join.{raised_from}
 use Rattle.behaviour_semantics.specs.ReplacementLaws.{IsApart}
@@ -31,7 +31,7 @@ AreFar base ts = Every (IsFar base) ts
 
 -- The sort that a head gives does not go by the numbers of variables.
 pub sort_of-raised : (from shift : ℕ) (signature : Signature) (t : Term)
-    → sort_of signature (substituted (raised_from from shift) t) ≡ sort_of signature t
+    → head_sort_of signature (substituted (raised_from from shift) t) ≡ head_sort_of signature t
 sort_of-raised from shift signature (variable n s) = refl
 sort_of-raised from shift signature (node f ts) = refl
 
@@ -173,9 +173,9 @@ module _ (base from shift : ℕ) (le_from : base ≤ from) where
     have_sorts-raised [] (s ∷ sorts) = refl
     have_sorts-raised (t ∷ ts) [] = refl
     have_sorts-raised (t ∷ ts) (s ∷ sorts) =
-        ap (λ (o : Option ℕ). is_same_sort o (Some s) && have_sorts signature (map (substituted raise) ts) sorts)
+        ap (λ (o : Option ℕ). is_same_known_sort o (Some s) && have_sorts signature (map (substituted raise) ts) sorts)
         (sort_of-raised from shift signature t)
-        ∙ ap (λ (b : Bool). is_same_sort (sort_of signature t) (Some s) && b) (have_sorts-raised ts sorts)
+        ∙ ap (λ (b : Bool). is_same_known_sort (head_sort_of signature t) (Some s) && b) (have_sorts-raised ts sorts)
 
     have_same_sorts-raised : (ts us : List Term) → have_same_sorts signature (map (substituted (raised_from from shift)) ts)
         (map (substituted (raised_from from shift)) us) ≡ have_same_sorts signature ts us
@@ -183,11 +183,11 @@ module _ (base from shift : ℕ) (le_from : base ≤ from) where
     have_same_sorts-raised [] (u ∷ us) = refl
     have_same_sorts-raised (t ∷ ts) [] = refl
     have_same_sorts-raised (t ∷ ts) (u ∷ us) =
-        ap (λ (o : Option ℕ). is_same_sort o (sort_of signature (substituted raise u)) && have_same_sorts signature
+        ap (λ (o : Option ℕ). is_same_known_sort o (head_sort_of signature (substituted raise u)) && have_same_sorts signature
         (map (substituted raise) ts) (map (substituted raise) us)) (sort_of-raised from shift signature t)
-        ∙ (ap (λ (o : Option ℕ). is_same_sort (sort_of signature t) o && have_same_sorts signature (map (substituted raise) ts)
+        ∙ (ap (λ (o : Option ℕ). is_same_known_sort (head_sort_of signature t) o && have_same_sorts signature (map (substituted raise) ts)
         (map (substituted raise) us)) (sort_of-raised from shift signature u)
-        ∙ ap (λ (b : Bool). is_same_sort (sort_of signature t) (sort_of signature u) && b) (have_same_sorts-raised ts us))
+        ∙ ap (λ (b : Bool). is_same_known_sort (head_sort_of signature t) (head_sort_of signature u) && b) (have_same_sorts-raised ts us))
 
     pub together-raised : (meet : SynchronisationSet) (label other : Label)
         → move_together signature meet (label_with (raised_from from shift) label) (label_with (raised_from from shift) other)

@@ -15,7 +15,7 @@ use Rattle.lotos_base.proofs.TestLemmas.{Decides-term_eq, Decides-occurs}
 use Rattle.behaviour_semantics.specs.Behaviour.{Test}
 use Rattle.behaviour_semantics.specs.Rule.{label_values}
 use Rattle.behaviour_semantics.specs.Draft.{Draft, draft_with}
-use Rattle.behaviour_semantics.specs.Solving.{Entry, variables_left, place_of, entry_of, test_in, canonical, differing, has_closed, tidied, one_side, either_side, replacement_of, first_found, first_replacement, replaced, SolvesTo, unsolvable, settled, replacing}
+use Rattle.behaviour_semantics.specs.Solving.{Entry, variables_left, place_of_number, entry_of, test_in, canonical, differing, has_closed, tidied, one_side, either_side, replacement_of, first_found, first_replacement, replaced, SolvesTo, unsolvable, settled, replacing}
 use Rattle.behaviour_semantics.specs.WellFormed.{Every}
 use Rattle.behaviour_semantics.specs.DraftOrder.{IsLeaf, IsDraftTerm, IsDraftTest, IsInOrder}
 use Rattle.behaviour_semantics.proofs.OptionLemmas.{some_value}
@@ -327,44 +327,46 @@ module _ (number : ℕ → ℕ) (leaves : List Term) (below : (n s : ℕ) → Is
       (λ i v at. omega arith))
       (λ i v at.
       let was = was_leaf_of v.0 v.1 (is_leaf (map (substituted (by_number number)) leaves) below' one_sort' i v at) in
-      let here : slice_get (variables_left 0 leaves leaves) (place_of 0 (variables_left 0 leaves leaves) was.0) ≡ Some (was.0, v.1) =
+      let here : slice_get (variables_left 0 leaves leaves) (place_of_number 0 (variables_left 0 leaves leaves) was.0) ≡ Some (was.0, v.1) =
       placed leaves below one_sort was.0 v.1 was.1 in (
-        place_of 0 (variables_left 0 leaves leaves) was.0,
+        place_of_number 0 (variables_left 0 leaves leaves) was.0,
         at_map (λ (w : ℕ × ℕ). (number w.0, w.1)) (variables_left 0 leaves leaves)
-            (place_of 0 (variables_left 0 leaves leaves) was.0) (was.0, v.1) here ∙ ap (λ (k : ℕ). Some (k, v.1)) was.2,
+            (place_of_number 0 (variables_left 0 leaves leaves) was.0) (was.0, v.1) here ∙ ap (λ (k : ℕ). Some (k, v.1)) was.2,
       ))
       (λ i v at.
       let from : (w : ℕ × ℕ) × (slice_get (variables_left 0 leaves leaves) i ≡ Some w) × ((number w.0, w.1) ≡ v) =
       from_map (λ (w : ℕ × ℕ). (number w.0, w.1)) (variables_left 0 leaves leaves) i v at in
       let leaf : IsLeaf (map (substituted (by_number number)) leaves) (number from.0.0) from.0.1 =
       is_leaf_of from.0.0 from.0.1 (is_leaf leaves below one_sort i from.0 from.1) in (
-        place_of 0 (variables_left 0 (map (substituted (by_number number)) leaves) (map (substituted (by_number number)) leaves))
+        place_of_number 0 (variables_left 0 (map (substituted (by_number number)) leaves) (map (substituted (by_number number)) leaves))
             (number from.0.0),
         placed (map (substituted (by_number number)) leaves) below' one_sort' (number from.0.0) from.0.1 leaf
             ∙ ap (λ (w : ℕ × ℕ). Some w) from.2,
       ))
 
   -- a variable gets the same number before and after
-  same_place : (n s : ℕ) → IsLeaf leaves n s → place_of 0 (variables_left 0 (map (substituted (by_number number)) leaves)
-      (map (substituted (by_number number)) leaves)) (number n) ≡ place_of 0 (variables_left 0 leaves leaves) n
+  same_place : (n s : ℕ) → IsLeaf leaves n s → place_of_number 0 (variables_left 0 (map (substituted (by_number number)) leaves)
+      (map (substituted (by_number number)) leaves)) (number n) ≡ place_of_number 0 (variables_left 0 leaves leaves) n
   same_place n s leaf =
-      let there : slice_get (image (variables_left 0 leaves leaves)) (place_of 0
+      let there : slice_get (image (variables_left 0 leaves leaves)) (place_of_number 0
       (variables_left 0 (map (substituted (by_number number)) leaves) (map (substituted (by_number number)) leaves)) (number n))
       ≡ Some (number n, s) =
-      sym (ap (λ (vs : List (ℕ × ℕ)). slice_get vs (place_of 0 (variables_left 0 (map (substituted (by_number number)) leaves)
+      sym (ap (λ (vs : List (ℕ × ℕ)). slice_get vs (place_of_number 0 (variables_left 0 (map (substituted (by_number number)) leaves)
       (map (substituted (by_number number)) leaves)) (number n))) same_left)
       ∙ placed (map (substituted (by_number number)) leaves) below' one_sort' (number n) s (is_leaf_of n s leaf) in
-      let here : slice_get (image (variables_left 0 leaves leaves)) (place_of 0 (variables_left 0 leaves leaves) n) ≡ Some (number n, s) =
-      at_map (λ (w : ℕ × ℕ). (number w.0, w.1)) (variables_left 0 leaves leaves) (place_of 0 (variables_left 0 leaves leaves) n) (n, s)
+      let here : slice_get (image (variables_left 0 leaves leaves)) (place_of_number 0 (variables_left 0 leaves leaves) n)
+      ≡ Some (number n, s) =
+      at_map (λ (w : ℕ × ℕ). (number w.0, w.1)) (variables_left 0 leaves leaves)
+      (place_of_number 0 (variables_left 0 leaves leaves) n) (n, s)
       (placed leaves below one_sort n s leaf) in
       one_place 0 (image (variables_left 0 leaves leaves)) (image_rises 0 0 (variables_left 0 leaves leaves)
       (left_rises 0 leaves leaves) (is_leaf leaves below one_sort) (λ i v at. omega arith))
-      (place_of 0 (variables_left 0 (map (substituted (by_number number)) leaves) (map (substituted (by_number number)) leaves))
-      (number n)) (place_of 0 (variables_left 0 leaves leaves) n) (number n)
+      (place_of_number 0 (variables_left 0 (map (substituted (by_number number)) leaves) (map (substituted (by_number number)) leaves))
+      (number n)) (place_of_number 0 (variables_left 0 leaves leaves) n) (number n)
       (at_map (λ (w : ℕ × ℕ). w.0) (image (variables_left 0 leaves leaves))
-      (place_of 0 (variables_left 0 (map (substituted (by_number number)) leaves) (map (substituted (by_number number)) leaves))
+      (place_of_number 0 (variables_left 0 (map (substituted (by_number number)) leaves) (map (substituted (by_number number)) leaves))
       (number n)) (number n, s) there)
-      (at_map (λ (w : ℕ × ℕ). w.0) (image (variables_left 0 leaves leaves)) (place_of 0 (variables_left 0 leaves leaves) n) (
+      (at_map (λ (w : ℕ × ℕ). w.0) (image (variables_left 0 leaves leaves)) (place_of_number 0 (variables_left 0 leaves leaves) n) (
         number n,
         s,
       ) here)

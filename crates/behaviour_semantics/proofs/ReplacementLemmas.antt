@@ -9,8 +9,10 @@ use Rattle.lotos_base.specs.Substitution.{Substitution, substituted, followed_by
 use Rattle.lotos_base.proofs.SubstitutionLemmas.{substituted_twice, substituted_agree, substituted_variables}
 use Rattle.behaviour_semantics.specs.Behaviour.{Behaviour, stop, exit_with, action, inner_action, guard, choice, parallel, hide, enable, disable, let_be, choose_value, choose_gate, par_gate, call, relabel, Test, Offer, give, ask, ExitValue, exit_value, any_of, asked_variables, numbers_of, let_variables}
 use Rattle.behaviour_semantics.specs.Replacement.{test_with, offer_with, exit_value_with, with_values}
-use Rattle.behaviour_semantics.specs.Draft.{above_variables, above}
+use Rattle.behaviour_semantics.specs.Draft.{above_variables, above, label_with}
 use Rattle.behaviour_semantics.specs.ReplacementLaws.{IsApart}
+use Rattle.behaviour_semantics.specs.Derives.{leaves_in}
+use Rattle.behaviour_semantics.specs.Label.{Label, inner_event, gate_event, exit_event}
 
 same_substitution : (first second : Substitution) → ((n s : ℕ) → first n s ≡ second n s) → first ≡ second
 same_substitution first second h = fun_ext (λ n. fun_ext (λ s. h n s))
@@ -284,3 +286,15 @@ unchanged (choose_gate g gates b) = ap (choose_gate g gates) (unchanged b)
 unchanged (par_gate g gates meet b) = ap (par_gate g gates meet) (unchanged b)
 unchanged (call number gates arguments) = ap (call number gates) (terms_same arguments)
 unchanged (relabel pairs b) = ap (relabel pairs) (unchanged b)
+
+-- Nothing put into terms and labels leaves them as they are.
+pub terms_stay : (terms : List Term) → map (substituted (leaves_in [])) terms ≡ terms
+terms_stay [] = refl
+terms_stay (t ∷ ts) =
+    let first : substituted variable t ≡ t = substituted_variables t in
+    let rest = terms_stay ts in (λ i. first i ∷ rest i)
+
+pub label_stays : (label : Label) → label_with (leaves_in []) label ≡ label
+label_stays inner_event = refl
+label_stays (gate_event g terms) = ap (gate_event g) (terms_stay terms)
+label_stays (exit_event terms) = ap exit_event (terms_stay terms)

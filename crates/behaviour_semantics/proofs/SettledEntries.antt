@@ -13,7 +13,7 @@ use Rattle.behaviour_semantics.specs.Replacement.{test_with}
 use Rattle.behaviour_semantics.specs.Rule.{AllHold, AreValues, label_values}
 use Rattle.behaviour_semantics.specs.Derives.{leaves_in}
 use Rattle.behaviour_semantics.specs.Draft.{Draft, label_with}
-use Rattle.behaviour_semantics.specs.Solving.{Entry, variables_left, place_of, entry_of}
+use Rattle.behaviour_semantics.specs.Solving.{Entry, variables_left, place_of_number, entry_of}
 use Rattle.behaviour_semantics.specs.Menu.{EqualTerms, EqualLabels, Meets, label_at, derivation_at}
 use Rattle.behaviour_semantics.specs.WellFormed.{Every}
 use Rattle.behaviour_semantics.specs.DraftOrder.{IsLeaf, HasLeafVariables, IsDraftTerm, IsDraftTest, IsInOrder, AreGroundLeaves}
@@ -23,7 +23,7 @@ use Rattle.behaviour_semantics.proofs.SolvedValues.{equal_terms_then, equal_term
 
 -- The numbers that variables get.
 abbrev pub renumbered : List Term → Substitution
-renumbered leaves n s = variable (place_of 0 (variables_left 0 leaves leaves) n) s
+renumbered leaves n s = variable (place_of_number 0 (variables_left 0 leaves leaves) n) s
 
 pub leaves_in-at : (ts : List Term) (n q : ℕ) (v : Term) → slice_get ts n ≡ Some v → leaves_in ts n q ≡ v
 leaves_in-at [] n q v e = absurd (cc e)
@@ -47,7 +47,8 @@ kept_values signature values (v ∷ kept) h = (h 0 v refl, kept_values signature
 
 -- Values of an entry's variables and of a draft's variables that fit one another.
 abbrev pub Matches : List Term → List Term → Substitution → Type 0
-Matches leaves ws values = (n r : ℕ) → IsLeaf leaves n r → leaves_in ws (place_of 0 (variables_left 0 leaves leaves) n) r ≡ values n r
+Matches leaves ws values =
+    (n r : ℕ) → IsLeaf leaves n r → leaves_in ws (place_of_number 0 (variables_left 0 leaves leaves) n) r ≡ values n r
 
 module _ (signature : Signature) (leaves ws : List Term) (values : Substitution) (matches : Matches leaves ws values) where
   same_value : (s : ℕ) (t : Term) → HasLeafVariables signature leaves s t
@@ -96,7 +97,7 @@ module _ (data_ : Data) (draft : Draft) (order : IsInOrder data_.signature draft
   left = variables_left 0 draft.leaves draft.leaves
 
   at_place : (n r : ℕ) → IsLeaf draft.leaves n r → slice_get (variables_left 0 draft.leaves draft.leaves)
-      (place_of 0 (variables_left 0 draft.leaves draft.leaves) n) ≡ Some (n, r)
+      (place_of_number 0 (variables_left 0 draft.leaves draft.leaves) n) ≡ Some (n, r)
   at_place = placed draft.leaves order.below order.one_sort
 
   -- the entry's leaves with ground values put in have the sorts of the draft's leaves
@@ -118,11 +119,11 @@ module _ (data_ : Data) (draft : Draft) (order : IsInOrder data_.signature draft
       × SolvedBy data_ draft values (derivation_at (entry_of draft) ws).leaves
       × EqualLabels data_ (label_at (entry_of draft) ws) (label_with values draft.label)
   sound_entry ws meets =
-      let values : Substitution = λ n r. leaves_in ws (place_of 0 (variables_left 0 draft.leaves draft.leaves) n) r in
+      let values : Substitution = λ n r. leaves_in ws (place_of_number 0 (variables_left 0 draft.leaves draft.leaves) n) r in
       let matches : Matches draft.leaves ws values = λ n r leaf. refl in
       let grounds : GroundsLeaves data_ draft.leaves values =
       λ n r leaf. value_at data_.signature (variables_left 0 draft.leaves draft.leaves) ws
-      (place_of 0 (variables_left 0 draft.leaves draft.leaves) n) n r r meets.sorted (at_place n r leaf) in (
+      (place_of_number 0 (variables_left 0 draft.leaves draft.leaves) n) n r r meets.sorted (at_place n r leaf) in (
         values,
         record {
           grounds = grounds;
@@ -141,9 +142,9 @@ module _ (data_ : Data) (draft : Draft) (order : IsInOrder data_.signature draft
       let ws : List Term = map (λ (v : ℕ × ℕ). values v.0 v.1) (variables_left 0 draft.leaves draft.leaves) in
       let matches : Matches draft.leaves ws values = λ n r leaf.
       leaves_in-at (map (λ (v : ℕ × ℕ). values v.0 v.1) (variables_left 0 draft.leaves draft.leaves))
-      (place_of 0 (variables_left 0 draft.leaves draft.leaves) n) r (values n r)
+      (place_of_number 0 (variables_left 0 draft.leaves draft.leaves) n) r (values n r)
       (at_map (λ (v : ℕ × ℕ). values v.0 v.1) (variables_left 0 draft.leaves draft.leaves)
-      (place_of 0 (variables_left 0 draft.leaves draft.leaves) n) (n, r) (at_place n r leaf)) in (
+      (place_of_number 0 (variables_left 0 draft.leaves draft.leaves) n) (n, r) (at_place n r leaf)) in (
         ws,
         record {
           sorted = kept_values data_.signature values (variables_left 0 draft.leaves draft.leaves)

@@ -17,7 +17,7 @@ use Rattle.behaviour_semantics.specs.Behaviour.{Test}
 use Rattle.behaviour_semantics.specs.Replacement.{test_with}
 use Rattle.behaviour_semantics.specs.Rule.{label_values}
 use Rattle.behaviour_semantics.specs.Draft.{Draft}
-use Rattle.behaviour_semantics.specs.Solving.{Entry, variables_left, place_of, entry_of, test_in, differing, has_closed, tidied, one_side, replacement_of, first_found, first_replacement, replaced, SolvesTo, unsolvable, settled, replacing}
+use Rattle.behaviour_semantics.specs.Solving.{Entry, variables_left, place_of_number, entry_of, test_in, differing, has_closed, tidied, one_side, replacement_of, first_found, first_replacement, replaced, SolvesTo, unsolvable, settled, replacing}
 use Rattle.behaviour_semantics.specs.SolvingLaws.{IsCanonical, IsOpen, IsTermOver}
 use Rattle.behaviour_semantics.specs.WellFormed.{Every}
 use Rattle.behaviour_semantics.specs.DraftOrder.{IsLeaf, HasLeafVariables, IsDraftTerm, IsDraftTest, IsInOrder}
@@ -101,12 +101,13 @@ module _ (data_ : Data) (canon : Term → Term) (is_canon : IsCanon data_ canon)
   left = variables_left 0 leaves leaves
 
   abbrev number : ℕ → ℕ → ℕ
-  number n s = place_of 0 (variables_left 0 leaves leaves) n
+  number n s = place_of_number 0 (variables_left 0 leaves leaves) n
 
   abbrev IsFine : ℕ → Term → Type 0
   IsFine s t = HasLeafVariables data_.signature leaves s t
 
-  is_placed : (n r : ℕ) → IsLeaf leaves n r → slice_get (variables_left 0 leaves leaves) (place_of 0 (variables_left 0 leaves leaves) n)
+  is_placed : (n r : ℕ) → IsLeaf leaves n r
+      → slice_get (variables_left 0 leaves leaves) (place_of_number 0 (variables_left 0 leaves leaves) n)
       ≡ Some (n, r)
   is_placed = placed leaves below one_sort
 

@@ -3,7 +3,7 @@ use Rattle.std.proofs.Common.{◌≡◌, ◌<◌, ℕ, List, [], ◌∷◌, leng
 use Rattle.std.specs.Prelude.{◌↔◌}
 use Rattle.lotos_base.specs.Signature.{Signature}
 use Rattle.lotos_base.specs.Term.{Term}
-use Rattle.lotos_base.specs.Sorting.{HasSort, sort_of}
+use Rattle.lotos_base.specs.Sorting.{HasSort, head_sort_of}
 use Rattle.lotos_base.specs.Equation.{Data}
 use Rattle.lotos_base.specs.Substitution.{substituted}
 use Rattle.lotos_base.specs.Canon.{IsCanon}
@@ -11,10 +11,10 @@ use Rattle.lotos_base.proofs.SortLemmas.{sort_of_sorted}
 use Rattle.lotos_base.proofs.SubstitutionLemmas.{ComesFrom, substituted_occurs, substituted_sort}
 use Rattle.behaviour_semantics.specs.Behaviour.{all_gates}
 use Rattle.behaviour_semantics.specs.Label.{Label, inner_event, gate_event, exit_event}
-use Rattle.behaviour_semantics.specs.Rule.{is_same_sort, have_same_sorts, move_together, label_values}
+use Rattle.behaviour_semantics.specs.Rule.{is_same_known_sort, have_same_sorts, move_together, label_values}
 use Rattle.behaviour_semantics.specs.Draft.{Draft, label_with, draft_with}
 use Rattle.behaviour_semantics.specs.Solving.{Entry, entry_of, canonical, label_in, tidied, replaced, SolvesTo, unsolvable, settled, replacing}
-use Rattle.behaviour_semantics.specs.Join.{both_drafts, raised, joined}
+use Rattle.behaviour_semantics.specs.Join.{both_drafts, raised, join_of_drafts}
 use Rattle.behaviour_semantics.specs.JoinLaws.{SidesMayBeSolvedBefore}
 use Rattle.behaviour_semantics.specs.WellFormed.{Every}
 use Rattle.behaviour_semantics.specs.DraftOrder.{HasLeafVariables, IsDraftTerm, IsInOrder, as_draft}
@@ -35,7 +35,7 @@ use Rattle.behaviour_semantics.proofs.JoinedOutcomes.{each_changed, same_solved}
 module _ (signature : Signature) where
   abbrev SameSorts : List Term → List Term → Type 0
   SameSorts [] [] = Unit {0}
-  SameSorts (t ∷ ts) (u ∷ us) = (sort_of signature t ≡ sort_of signature u) × SameSorts ts us
+  SameSorts (t ∷ ts) (u ∷ us) = (head_sort_of signature t ≡ head_sort_of signature u) × SameSorts ts us
   SameSorts _ _ = ⊥
 
   abbrev SameKind : Label → Label → Type 0
@@ -70,11 +70,12 @@ module _ (signature : Signature) where
   kind_then (exit_event ts) (exit_event us) (gate_event g vs) h k = absurd k
 
   -- a change of terms that keeps sorts
-  sorts_in : (f : Term → Term) (ts : List Term) → Every (λ t. sort_of signature (f t) ≡ sort_of signature t) ts → SameSorts (map f ts) ts
+  sorts_in : (f : Term → Term) (ts : List Term) → Every (λ t. head_sort_of signature (f t) ≡ head_sort_of signature t) ts
+      → SameSorts (map f ts) ts
   sorts_in f [] h = tt
   sorts_in f (t ∷ ts) h = (h.0, sorts_in f ts h.1)
 
-  kind_in : (f : Term → Term) (label : Label) → Every (λ t. sort_of signature (f t) ≡ sort_of signature t) (label_values label)
+  kind_in : (f : Term → Term) (label : Label) → Every (λ t. head_sort_of signature (f t) ≡ head_sort_of signature t) (label_values label)
       → SameKind (label_in f label) label
   kind_in f inner_event h = tt
   kind_in f (gate_event g ts) h = (refl, sorts_in f ts h)
@@ -85,7 +86,7 @@ module _ (signature : Signature) where
   same_matches [] [] [] [] h k = refl
   same_matches [] (u ∷ us) [] (u' ∷ us') h k = refl
   same_matches (t ∷ ts) [] (t' ∷ ts') [] h k = refl
-  same_matches (t ∷ ts) (u ∷ us) (t' ∷ ts') (u' ∷ us') h k = λ i. is_same_sort (h.0 i) (k.0 i) && same_matches ts us ts' us' h.1 k.1 i
+  same_matches (t ∷ ts) (u ∷ us) (t' ∷ ts') (u' ∷ us') h k = λ i. is_same_known_sort (h.0 i) (k.0 i) && same_matches ts us ts' us' h.1 k.1 i
   same_matches [] us (t' ∷ ts') us' h k = absurd h
   same_matches (t ∷ ts) us [] us' h k = absurd h
   same_matches [] [] [] (u' ∷ us') h k = absurd k
@@ -129,7 +130,7 @@ module _ (data_ : Data) (canon : Term → Term) (is_canon : IsCanon data_ canon)
       → SameKind data_.signature (label_in f draft.label) draft.label
   keeps draft f order sorted =
       kind_in data_.signature f draft.label
-      (terms_in_order data_ draft (λ t. sort_of data_.signature (f t) ≡ sort_of data_.signature t)
+      (terms_in_order data_ draft (λ t. head_sort_of data_.signature (f t) ≡ head_sort_of data_.signature t)
       (λ t h. sort_of_sorted data_.signature (f t) h.0 (sorted h.0 t h.1)
       ∙ sym (sort_of_sorted data_.signature t h.0 h.1.sorted)) order).values
 
@@ -176,7 +177,7 @@ abbrev joined_draft : Draft → Draft → Draft
 joined_draft left right = both_drafts left (canonical (substituted (raised (length left.leaves))) right)
 
 -- what a join is, where there is one
-is_joined : (signature : Signature) (left right whole : Draft) → joined signature left right ≡ Some whole
+is_joined : (signature : Signature) (left right whole : Draft) → join_of_drafts signature left right ≡ Some whole
     → (move_together signature all_gates left.label right.label ≡ true) × (joined_draft left right ≡ whole)
 is_joined signature left right whole e =
     let parts = tested (move_together signature all_gates left.label right.label)

@@ -76,9 +76,6 @@ has_closed-append (test ∷ tests) others = by (is_ground test.left && is_ground
 abbrev pub SameOutcomes : (Term → Term) → Draft → Draft → Type 0
 SameOutcomes canon draft other = (outcome : Option Entry) → SolvesTo canon draft outcome ↔ SolvesTo canon other outcome
 
-pub same_back : {canon : Term → Term} {draft other : Draft} → SameOutcomes canon draft other → SameOutcomes canon other draft
-same_back h outcome = ((h outcome).1, (h outcome).0)
-
 pub same_then : {canon : Term → Term} {draft other last : Draft} → SameOutcomes canon draft other → SameOutcomes canon other last
     → SameOutcomes canon draft last
 same_then h k outcome = ((λ s. (k outcome).0 ((h outcome).0 s)), (λ s. (h outcome).1 ((k outcome).1 s)))

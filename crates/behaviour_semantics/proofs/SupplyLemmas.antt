@@ -1,10 +1,12 @@
 -- Leaves that a substitution gives from a number on.
-use Rattle.std.proofs.Common.{◌≡◌, ℕ, suc, ◌+◌, List, [], ◌∷◌, ◌++◌, length, refl, ap, arith, subst, zero, slice_get, Some}
+use Rattle.std.proofs.Common.{◌≡◌, ℕ, suc, ◌+◌, List, [], ◌∷◌, ◌++◌, length, refl, ap, arith, subst, zero, slice_get, Some, map}
 use Rattle.lotos_base.specs.Signature.{Signature}
 use Rattle.lotos_base.specs.Term.{Term}
 use Rattle.lotos_base.specs.Sorting.{IsGroundOf}
 use Rattle.lotos_base.specs.Equation.{Data}
 use Rattle.lotos_base.specs.Substitution.{Substitution}
+use Rattle.lotos_base.specs.Canon.{IsCanon}
+use Rattle.lotos_base.proofs.CanonLemmas.{canon_ground}
 use Rattle.behaviour_semantics.specs.Behaviour.{Test}
 use Rattle.behaviour_semantics.specs.Rule.{AreValues, AllHold}
 use Rattle.behaviour_semantics.specs.Move.{taken}
@@ -111,3 +113,12 @@ value_at signature [] values h n s at = absurd (cc at)
 value_at signature (r ∷ sorts) [] h n s at = absurd h
 value_at signature (r ∷ sorts) (v ∷ values) h zero s at = subst (λ (q : ℕ). IsGroundOf signature q v) (some_value at) h.0
 value_at signature (r ∷ sorts) (v ∷ values) h (suc n) s at = value_at signature sorts values h.1 n s at
+
+-- Canonical forms of values are values.
+pub canon_values : (data_ : Data) (canon : Term → Term) → IsCanon data_ canon → (sorts : List ℕ) (values : List Term)
+    → AreValues data_.signature sorts values → AreValues data_.signature sorts (map canon values)
+canon_values data_ canon is [] [] fit = tt
+canon_values data_ canon is [] (value ∷ values) fit = absurd fit
+canon_values data_ canon is (sort ∷ sorts) [] fit = absurd fit
+canon_values data_ canon is (sort ∷ sorts) (value ∷ values) fit =
+    (canon_ground data_ canon value sort is fit.0, canon_values data_ canon is sorts values fit.1)

@@ -39,8 +39,8 @@ both_drafts left right = record {
 
 -- The join of two drafts: there is none where the labels differ in kind, gate, number of values or a value's sort, or are
 -- inner events. The numbers of the right variables are raised by the number of the left leaves.
-abbrev pub joined : Signature → Draft → Draft → Option Draft
-joined signature left right =
+abbrev pub join_of_drafts : Signature → Draft → Draft → Option Draft
+join_of_drafts signature left right =
     if move_together signature all_gates left.label right.label
     then Some (both_drafts left (draft_with (raised (length left.leaves)) right))
     else None

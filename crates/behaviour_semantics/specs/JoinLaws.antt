@@ -6,7 +6,7 @@ use Rattle.lotos_base.specs.Canon.{IsCanon}
 use Rattle.behaviour_semantics.specs.Draft.{Draft}
 use Rattle.behaviour_semantics.specs.Solving.{Entry, SolvesTo}
 use Rattle.behaviour_semantics.specs.DraftOrder.{IsInOrder, as_draft}
-use Rattle.behaviour_semantics.specs.Join.{joined}
+use Rattle.behaviour_semantics.specs.Join.{join_of_drafts}
 
 -- Two drafts in order with their entries, which solving leaves of them.
 pub record AreSolvedSides (data_ : Data) (canon : Term → Term) (left right : Draft) (entry other : Entry) : Type 0 where
@@ -22,26 +22,26 @@ pub record SidesMayBeSolvedBefore : Type 0 where
       (data_ : Data) (left right whole : Draft) →
       IsInOrder data_.signature left →
       IsInOrder data_.signature right →
-      joined data_.signature left right ≡ Some whole →
+      join_of_drafts data_.signature left right ≡ Some whole →
       IsInOrder data_.signature whole
   pub same_joins :
       (data_ : Data) (canon : Term → Term) (left right : Draft) (entry other : Entry) →
       IsCanon data_ canon →
       AreSolvedSides data_ canon left right entry other →
-      (joined data_.signature left right ≡ None) ↔ (joined data_.signature (as_draft entry) (as_draft other) ≡ None)
+      (join_of_drafts data_.signature left right ≡ None) ↔ (join_of_drafts data_.signature (as_draft entry) (as_draft other) ≡ None)
   pub same_outcomes :
       (data_ : Data) (canon : Term → Term) (left right : Draft) (entry other : Entry) (whole solved : Draft) (outcome : Option Entry) →
       IsCanon data_ canon →
       AreSolvedSides data_ canon left right entry other →
-      joined data_.signature left right ≡ Some whole →
-      joined data_.signature (as_draft entry) (as_draft other) ≡ Some solved →
+      join_of_drafts data_.signature left right ≡ Some whole →
+      join_of_drafts data_.signature (as_draft entry) (as_draft other) ≡ Some solved →
       SolvesTo canon whole outcome ↔ SolvesTo canon solved outcome
   pub left_nothing :
       (data_ : Data) (canon : Term → Term) (left right whole : Draft) →
       IsCanon data_ canon →
       IsInOrder data_.signature left →
       IsInOrder data_.signature right →
-      joined data_.signature left right ≡ Some whole →
+      join_of_drafts data_.signature left right ≡ Some whole →
       SolvesTo canon left None →
       SolvesTo canon whole None
   pub right_nothing :
@@ -49,6 +49,6 @@ pub record SidesMayBeSolvedBefore : Type 0 where
       IsCanon data_ canon →
       IsInOrder data_.signature left →
       IsInOrder data_.signature right →
-      joined data_.signature left right ≡ Some whole →
+      join_of_drafts data_.signature left right ≡ Some whole →
       SolvesTo canon right None →
       SolvesTo canon whole None

@@ -10,7 +10,7 @@ use Rattle.behaviour_semantics.specs.Replacement.{with_values, binding_of}
 use Rattle.behaviour_semantics.specs.Shape.{Shape, both_sides}
 use Rattle.behaviour_semantics.specs.Move.{Move, move_of}
 use Rattle.behaviour_semantics.specs.Draft.{Draft, draft_of, draft_by, leaves_from, first_apart, above_variables}
-use Rattle.behaviour_semantics.specs.Join.{move_with, raised_from, joined, meets_with}
+use Rattle.behaviour_semantics.specs.Join.{move_with, raised_from, join_of_drafts, meets_with}
 use Rattle.behaviour_semantics.specs.WellFormed.{AreBinders, IsBehaviour, IsSpecification, AreOver}
 
 -- The move of a shape with variables for its leaves: the leaf with number `k` is the variable `base + k`, and the first
@@ -21,7 +21,7 @@ open_move data_ canon processes base shape next b =
 
 -- The draft of both sides of a parallel, from the drafts of the sides.
 abbrev pub joined_at : Data → SynchronisationSet → Draft → Draft → Option Draft
-joined_at data_ meet left right = if meets_with meet left.label then joined data_.signature left right else None
+joined_at data_ meet left right = if meets_with meet left.label then join_of_drafts data_.signature left right else None
 
 -- The term has the sort, and its variables are leaves with numbers from `base` on and below a limit.
 pub record IsOverLeaves (signature : Signature) (base limit sort : ℕ) (term : Term) : Type 0 where

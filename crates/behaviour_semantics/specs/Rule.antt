@@ -3,7 +3,7 @@
 use Rattle.std.specs.Prelude.{ℕ, List, [], ◌∷◌, Bool, ◌&&◌, not, map, nat_eq, Option, None, Some, if◌then◌else◌}
 use Rattle.lotos_base.specs.Signature.{Signature}
 use Rattle.lotos_base.specs.Term.{Term}
-use Rattle.lotos_base.specs.Sorting.{sort_of, IsGroundOf}
+use Rattle.lotos_base.specs.Sorting.{head_sort_of, IsGroundOf}
 use Rattle.lotos_base.specs.Equation.{Data}
 use Rattle.lotos_base.specs.Equality.{Equal}
 use Rattle.lotos_base.specs.Substitution.{Substitution, is_listed}
@@ -50,20 +50,21 @@ moves_alone meet (gate_event g values) = not (synchronises meet g)
 moves_alone meet (exit_event values) = Bool.false
 
 -- Two sorts that are known, and the same.
-abbrev pub is_same_sort : Option ℕ → Option ℕ → Bool
-is_same_sort (Some s) (Some t) = nat_eq s t
-is_same_sort _ _ = Bool.false
+abbrev pub is_same_known_sort : Option ℕ → Option ℕ → Bool
+is_same_known_sort (Some s) (Some t) = nat_eq s t
+is_same_known_sort _ _ = Bool.false
 
 -- As many terms as sorts, and each term of its sort.
 abbrev pub have_sorts : Signature → List Term → List ℕ → Bool
 have_sorts signature [] [] = Bool.true
-have_sorts signature (t ∷ ts) (s ∷ ss) = is_same_sort (sort_of signature t) (Some s) && have_sorts signature ts ss
+have_sorts signature (t ∷ ts) (s ∷ ss) = is_same_known_sort (head_sort_of signature t) (Some s) && have_sorts signature ts ss
 have_sorts signature _ _ = Bool.false
 
 -- Equally many terms of the same sorts.
 abbrev pub have_same_sorts : Signature → List Term → List Term → Bool
 have_same_sorts signature [] [] = Bool.true
-have_same_sorts signature (t ∷ ts) (u ∷ us) = is_same_sort (sort_of signature t) (sort_of signature u) && have_same_sorts signature ts us
+have_same_sorts signature (t ∷ ts) (u ∷ us) =
+    is_same_known_sort (head_sort_of signature t) (head_sort_of signature u) && have_same_sorts signature ts us
 have_same_sorts signature _ _ = Bool.false
 
 -- Both sides of a parallel move together: at one gate where they meet, or both ending, with equally many values of

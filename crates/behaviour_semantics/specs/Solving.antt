@@ -98,15 +98,15 @@ variables_left n [] leaves = []
 variables_left n (leaf ∷ rest) leaves = numbered n (leaf_sort n leaves) (variables_left (suc n) rest leaves)
 
 -- The place of a number in the list of the variables that are left, counted from a first place on.
-abbrev pub place_of : ℕ → List (ℕ × ℕ) → ℕ → ℕ
-place_of first [] n = n
-place_of first (kept ∷ rest) n = if nat_eq kept.0 n then first else place_of (suc first) rest n
+abbrev pub place_of_number : ℕ → List (ℕ × ℕ) → ℕ → ℕ
+place_of_number first [] n = n
+place_of_number first (kept ∷ rest) n = if nat_eq kept.0 n then first else place_of_number (suc first) rest n
 
 -- The entry of a draft on which nothing is left to do: its variables are numbered from 0.
 abbrev pub entry_of : Draft → Entry
 entry_of draft =
     let kept : List (ℕ × ℕ) = variables_left 0 draft.leaves draft.leaves in
-    let renumbered : Substitution = λ n s. variable (place_of 0 kept n) s in
+    let renumbered : Substitution = λ n s. variable (place_of_number 0 kept n) s in
     record {
       shape = draft.shape;
       label = label_with renumbered draft.label;

@@ -6,8 +6,7 @@ use Rattle.lotos_base.specs.Equation.{Variable}
 use Rattle.lotos_base.specs.Sorting.{IsGround}
 use Rattle.lotos_base.specs.Signature.{Signature}
 use Rattle.behaviour_semantics.specs.Behaviour.{Behaviour}
-use Rattle.behaviour_semantics.specs.Label.{formals_of}
-use Rattle.behaviour_semantics.specs.WellFormed.{Every, AreDistinct}
+use Rattle.behaviour_semantics.specs.WellFormed.{Every}
 use Rattle.behaviour_semantics.proofs.ListLemmas.{Every-append}
 use Rattle.sort_terms.specs.ProfiledTerm.{head_sort, ProfiledTerm, IsOf}
 use Rattle.sort_terms.specs.SortedView.{profiled_in, term_in}
@@ -15,7 +14,7 @@ use Rattle.sort_terms.specs.declared.sorted.Sorted.{Sorted}
 use Rattle.behaviour_tree.specs.BehaviourView.{terms_of}
 use Rattle.behaviour_tree.specs.Closed.{AreGroundValues, IsClosedBy, IsClosedNode, IsClosedUnder, IsGivenOnce}
 use Rattle.behaviour_tree.specs.declared.states.Node.{Node}
-use Rattle.behaviour_tree.specs.StateView.{environment_of, pair_of, pair_profile}
+use Rattle.behaviour_tree.specs.StateView.{environment_of, environment_pair_of, pair_profile}
 use Rattle.behaviour_tree.specs.Over.{AreTermsOf}
 
 -- Environments with the same variables, values and profiles.
@@ -27,7 +26,7 @@ rest_alike : (p q : ℕ × Sorted) (made given : List (ℕ × Sorted)) → AreAl
 rest_alike p q made given h = record { same = cc h.same; terms = cc h.terms }
 
 first_number : (p q : ℕ × Sorted) (made given : List (ℕ × Sorted)) → AreAlike (p ∷ made) (q ∷ given) → p.0 ≡ q.0
-first_number p q made given h = let e : pair_of p ≡ pair_of q = cc h.same in ap (λ (pair : ℕ × Term). pair.0) e
+first_number p q made given h = let e : environment_pair_of p ≡ environment_pair_of q = cc h.same in ap (λ (pair : ℕ × Term). pair.0) e
 
 first_profile : (p q : ℕ × Sorted) (made given : List (ℕ × Sorted)) → AreAlike (p ∷ made) (q ∷ given)
     → profiled_in p.1 ≡ profiled_in q.1
@@ -84,7 +83,7 @@ ground_alike (p ∷ made) (q ∷ given) h ground = (
   ground_alike made given (rest_alike p q made given h) ground.1,
 )
   where
-    is : pair_of p ≡ pair_of q
+    is : environment_pair_of p ≡ environment_pair_of q
     is = cc h.same
 
 -- A behaviour with its environment.
@@ -122,10 +121,6 @@ values_alike (v ∷ made) (w ∷ given) e ground = (subst (λ (t : Term). IsGrou
   where
     is : term_in v ≡ term_in w
     is = cc e
-
--- A relabelling.
-pub formals_alike : (made given : List (ℕ × ℕ)) → made ≡ given → AreDistinct (formals_of given) → AreDistinct (formals_of made)
-formals_alike made given e distinct = subst (λ (pairs : List (ℕ × ℕ)). AreDistinct (formals_of pairs)) (sym e) distinct
 
 -- The node itself.
 pub same_closed : (made given : Node) → made ≡ given → IsClosedNode given → IsClosedNode made

@@ -4,7 +4,7 @@ use Rattle.behaviour_tree.specs.declared.order.Standing.{Standing}
 use Rattle.behaviour_tree.specs.declared.order.Standing.TheVariants as standing
 
 -- What the answer says of two shapes: the first comes before the second, they agree, or neither.
-abbrev pub Tells : Standing → Shape → Shape → Type 0
-Tells standing.Before s t = Before s t
-Tells standing.Agreeing s t = Agree s t
-Tells standing.Otherwise s t = (Before s t → ⊥) × (Agree s t → ⊥)
+abbrev pub TellsStanding : Standing → Shape → Shape → Type 0
+TellsStanding standing.Before s t = Before s t
+TellsStanding standing.Agreeing s t = Agree s t
+TellsStanding standing.Otherwise s t = (Before s t → ⊥) × (Agree s t → ⊥)

@@ -19,11 +19,11 @@ abbrev pub number_of : Variable → ℕ
 number_of variable = variable.number
 
 -- the variables of an environment by their numbers, with their values
-abbrev pub pair_of : ℕ × Sorted → ℕ × Term
-pair_of pair = (pair.0, term_in pair.1)
+abbrev pub environment_pair_of : ℕ × Sorted → ℕ × Term
+environment_pair_of pair = (pair.0, term_in pair.1)
 
 abbrev pub environment_of : List (ℕ × Sorted) → List (ℕ × Term)
-environment_of pairs = map pair_of pairs
+environment_of pairs = map environment_pair_of pairs
 
 -- the pair of a variable with its value, if there is one
 abbrev pub pairs_with : ℕ → Option Sorted → List (ℕ × Sorted)

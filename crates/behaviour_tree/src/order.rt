@@ -2,7 +2,7 @@
 
 ghost use Rattle.behaviour_semantics.specs.Shape.{Before};
 ghost use Rattle.behaviour_tree.specs.MoveView.{shape_of};
-ghost use Rattle.behaviour_tree.specs.Standing.{Tells};
+ghost use Rattle.behaviour_tree.specs.Standing.{TellsStanding};
 ghost use Rattle.std.specs.Prelude.{◌≡◌, ◌↔◌, IsTrue};
 
 use crate::moves::Shape;
@@ -36,7 +36,7 @@ impl Shape {
     /// How this shape stands to the other.
     #[tactic(auto, using(crate::proofs::StandingLemmas::tells_act, crate::proofs::StandingLemmas::tells_quit, crate::proofs::StandingLemmas::tells_inner, crate::proofs::StandingLemmas::tells_left_right, crate::proofs::StandingLemmas::tells_left_both, crate::proofs::StandingLemmas::tells_right_both, crate::proofs::StandingLemmas::tells_first, crate::proofs::StandingLemmas::tells_neither, crate::proofs::StandingLemmas::tells_second, crate::proofs::StandingLemmas::tells_earlier, crate::proofs::StandingLemmas::tells_later, crate::proofs::StandingLemmas::tells_gate, crate::proofs::StandingLemmas::tells_guarded, crate::proofs::StandingLemmas::tells_left, crate::proofs::StandingLemmas::tells_right, crate::proofs::StandingLemmas::tells_hidden, crate::proofs::StandingLemmas::tells_enabled, crate::proofs::StandingLemmas::tells_passed, crate::proofs::StandingLemmas::tells_enabled_passed, crate::proofs::StandingLemmas::tells_passed_enabled, crate::proofs::StandingLemmas::tells_let, crate::proofs::StandingLemmas::tells_value, crate::proofs::StandingLemmas::tells_called, crate::proofs::StandingLemmas::tells_relabelled))]
     pub fn standing(&self, other: &Shape) -> Standing
-        ensures { Tells result (shape_of self.now) (shape_of other.now) }
+        ensures { TellsStanding result (shape_of self.now) (shape_of other.now) }
     {
         match (self, other) {
             (Shape::Act, Shape::Act) | (Shape::Quit, Shape::Quit) => Standing::Agreeing,

@@ -3,16 +3,6 @@ use Rattle.std.proofs.Common.{◌≡◌, ◌⊎◌, inl, inr, ◌<◌, ◌+◌, 
 use Rattle.std.proofs.Math.Nat.{eq-or-lt_of_le}
 use Rattle.behaviour_semantics.proofs.OptionLemmas.{some_value}
 
--- where a member stands, as code reads it
-pub place_of : {X : Type 0} (xs : List X) (i : ℕ) (x : X) → i < length xs → x ≡ get_or xs i x → slice_get xs i ≡ Some x
-place_of [] i x within is = absurd (omega (arith, within))
-place_of (y ∷ xs) zero x within is = ap Some (sym is)
-place_of (y ∷ xs) (suc i) x within is = place_of xs i x (omega (arith, within)) is
-
--- the same of a list behind a reference
-pub read_there : {X : Type 0} (xs ys : List X) (i : ℕ) (x : X) → xs ≡ ys → i < length xs → x ≡ get_or xs i x → slice_get ys i ≡ Some x
-read_there {X = X} xs ys i x same within is = subst (λ (it : List X). slice_get it i ≡ Some x) same (place_of xs i x within is)
-
 -- the same of a member that is read with another one in its stead past the end
 pub place_given : {X : Type 0} (xs : List X) (i : ℕ) (d : X) → i < length xs → slice_get xs i ≡ Some (get_or xs i d)
 place_given [] i d within = absurd (omega (arith, within))

@@ -1,6 +1,6 @@
 -- Lines of certificates, read.
-use Rattle.std.proofs.Common.{◌≡◌, ◌<◌, ◌≤◌, ◌+◌, ◌-◌, ◌^◌, ℕ, suc, zero, List, [], ◌∷◌, ◌++◌, Some, map, length, slice_get, get_or, take, drop, refl, ap, sym, ◌∙◌, subst, arith, add-one, append_assoc}
-use Rattle.std.proofs.lemmas.List.{length-map, map-append}
+use Rattle.std.proofs.Common.{◌≡◌, ◌<◌, ◌≤◌, ◌+◌, ◌-◌, ◌^◌, ℕ, suc, zero, List, [], ◌∷◌, ◌++◌, Some, map, length, slice_get, get_or, take, drop, refl, ap, sym, ◌∙◌, subst, arith, add-one}
+use Rattle.std.proofs.lemmas.List.{length-map}
 use Rattle.behaviour_semantics.proofs.OptionLemmas.{some_value}
 use Rattle.session_histories.specs.TraceLine.{lines_of}
 use Rattle.behaviour_semantics.specs.WellFormed.{Every}
@@ -9,7 +9,7 @@ use Rattle.std.proofs.lemmas.List.{take_rest}
 use Rattle.bisim_check.specs.LineView.{BadLineIs}
 use Rattle.bisim_check.specs.declared.lines.PairTextFault.{PairTextFault}
 use Rattle.bisim_check.specs.declared.lines.PairTextFault.TheVariants as text_fault
-use Rattle.bisim_check.specs.LineTexts.{two_numbers, line_text, HasSmallNumbers, IsWritten, IsNoLine, AreNoNumbers, IsFirstBadLine, OneLineMore}
+use Rattle.bisim_check.specs.LineTexts.{two_numbers, line_text, HasSmallNumbers, IsWritten, IsNoLine, AreNoNumbers, IsFirstBadLine}
 
 -- a line whose first byte is none of the three, whose second byte is no space, or that is shorter
 pub other_kind : (kind : ℕ) (bytes : List ℕ) → (kind ≡ 108 → ⊥) → (kind ≡ 114 → ⊥) → (kind ≡ 112 → ⊥) → IsNoLine (kind ∷ 32 ∷ bytes)
@@ -61,26 +61,6 @@ bad_told P Q (text_fault.BadLine line) more h = more line h
 bad_told P Q text_fault.NoMemory more h = tt
 
 -- ---- Lines one after another
-
-every_last : {X : Type 0} (P : X → Type 0) (xs : List X) (x : X) → Every P xs → P x → Every P (xs ++ (x ∷ []))
-every_last P [] x h last = (last, tt)
-every_last P (y ∷ xs) x h last = (h.0, every_last P xs x h.1 last)
-
-pub small_more : (text : List ℕ) (before after : List CertificateLine) → OneLineMore text before after → Every HasSmallNumbers before
-    → Every HasSmallNumbers after
-small_more text before after more small =
-    subst (Every HasSmallNumbers) (sym more.added) (every_last HasSmallNumbers before more.line small more.written.small)
-
-pub cut_more : (text rest line behind : List ℕ) (before after : List CertificateLine) → OneLineMore line before after
-    → lines_of rest ≡ line ∷ lines_of behind
-    → lines_of text ≡ map line_text before ++ lines_of rest
-    → lines_of text ≡ map line_text after ++ lines_of behind
-cut_more text rest line behind before after more cut so_far =
-    so_far ∙ (ap (λ (it : List (List ℕ)). map line_text before ++ it) cut
-    ∙ (ap (λ (it : List ℕ). map line_text before ++ (it ∷ lines_of behind)) more.written.written
-    ∙ (sym (append_assoc (map line_text before) (line_text more.line ∷ []) (lines_of behind))
-    ∙ (ap (λ (it : List (List ℕ)). it ++ lines_of behind) (sym (map-append line_text before (more.line ∷ [])))
-    ∙ ap (λ (it : List CertificateLine). map line_text it ++ lines_of behind) (sym more.added)))))
 
 at_seam : {X : Type 0} (xs ys : List X) (y : X) → slice_get (xs ++ (y ∷ ys)) (length xs) ≡ Some y
 at_seam [] ys y = refl

@@ -10,7 +10,7 @@ use Rattle.behaviour_semantics.specs.WellFormed.{AreOver}
 use Rattle.behaviour_semantics.proofs.OptionLemmas.{some_value}
 use Rattle.certificate_theory.specs.Agreement.{IdenticalLabels}
 use Rattle.certificate_theory.specs.AgreementLaws.{IsClosedEntryOf, ClosedEntriesAreEvents, ClosedLabelsAgreeWhereIdentical}
-use Rattle.certificate_theory.specs.Certificate.{side_of}
+use Rattle.certificate_theory.specs.Certificate.{compared_side_of}
 use Rattle.certificate_theory.specs.NamedStates.{IsClosedEntry, EntryLeads, numbered_entry}
 use Rattle.certificate_theory.specs.MatchedPairs.{IsMatched, AreMatched, IsFirstUnmatched}
 use Rattle.bisim_check.specs.Matching.{Event, AreEvents, HasAnswer, AllAnswered, IsFirstUnanswered}
@@ -21,16 +21,16 @@ pub record HasEvents (data_ : Data) (canon : Term → Term) (specification : Spe
   pub over : AreOver data_ canon specification b
   pub exact : Exact data_ canon specification.processes b menu
   pub closed : (entry : Entry) → IsEntry menu entry → IsClosedEntry entry
-  pub events : AreEvents (side_of data_ canon specification) b menu made
+  pub events : AreEvents (compared_side_of data_ canon specification) b menu made
 
 -- The entry of an event, and the event of an entry.
 record EventOf (data_ : Data) (canon : Term → Term) (specification : Specification) (b : Behaviour) (entry : Entry) (event : Event)
     : Type 0 where
   label : event.label ≡ entry.label
-  leads : EntryLeads (side_of data_ canon specification) b entry event.target
+  leads : EntryLeads (compared_side_of data_ canon specification) b entry event.target
 
 module _ (data_ : Data) (canon : Term → Term) (specification : Specification) (b : Behaviour) where
-  event_at : (menu : List Entry) (events : List Event) → AreEvents (side_of data_ canon specification) b menu events
+  event_at : (menu : List Entry) (events : List Event) → AreEvents (compared_side_of data_ canon specification) b menu events
       → (k : ℕ) (entry : Entry) → slice_get menu k ≡ Some entry
       → (event : Event) × (slice_get events k ≡ Some event) × EventOf data_ canon specification b entry event
   event_at (first ∷ menu) (event ∷ events) h zero entry e = (
@@ -38,7 +38,7 @@ module _ (data_ : Data) (canon : Term → Term) (specification : Specification) 
     refl,
     record {
       label = h.0 ∙ ap (λ (it : Entry). it.label) (some_value e);
-      leads = subst (λ (it : Entry). EntryLeads (side_of data_ canon specification) b it event.target) (some_value e) h.1;
+      leads = subst (λ (it : Entry). EntryLeads (compared_side_of data_ canon specification) b it event.target) (some_value e) h.1;
     },
   )
   event_at (first ∷ menu) (event ∷ events) h (suc k) entry e = event_at menu events h.2 k entry e
@@ -46,7 +46,7 @@ module _ (data_ : Data) (canon : Term → Term) (specification : Specification) 
   event_at [] (event ∷ events) h k entry e = absurd h
   event_at (first ∷ menu) [] h k entry e = absurd h
 
-  entry_at : (menu : List Entry) (events : List Event) → AreEvents (side_of data_ canon specification) b menu events
+  entry_at : (menu : List Entry) (events : List Event) → AreEvents (compared_side_of data_ canon specification) b menu events
       → (k : ℕ) (event : Event) → slice_get events k ≡ Some event
       → (entry : Entry) × (slice_get menu k ≡ Some entry) × EventOf data_ canon specification b entry event
   entry_at (entry ∷ menu) (first ∷ events) h zero event e = (
@@ -54,7 +54,7 @@ module _ (data_ : Data) (canon : Term → Term) (specification : Specification) 
     refl,
     record {
       label = sym (ap (λ (it : Event). it.label) (some_value e)) ∙ h.0;
-      leads = subst (λ (it : Event). EntryLeads (side_of data_ canon specification) b entry it.target) (some_value e) h.1;
+      leads = subst (λ (it : Event). EntryLeads (compared_side_of data_ canon specification) b entry it.target) (some_value e) h.1;
     },
   )
   entry_at (entry ∷ menu) (first ∷ events) h (suc k) event e = entry_at menu events h.2 k event e
@@ -66,18 +66,18 @@ module _ (are_events : ClosedEntriesAreEvents) (agree_where : ClosedLabelsAgreeW
     (sides : HasSortedSides data_) (one other : Specification) (Listed : Behaviour → Behaviour → Type 0) (b d : Behaviour)
     (menu answers : List Entry) (events other_events : List Event) (left : HasEvents data_ canon one b menu events)
     (right : HasEvents data_ canon other d answers other_events) where
-  closed_left : (entry : Entry) → IsEntry menu entry → IsClosedEntryOf (side_of data_ canon one) b entry
+  closed_left : (entry : Entry) → IsEntry menu entry → IsClosedEntryOf (compared_side_of data_ canon one) b entry
   closed_left entry there =
       record { over = left.over; menu = menu; exact = left.exact; there = there; closed = left.closed entry there }
 
-  closed_right : (entry : Entry) → IsEntry answers entry → IsClosedEntryOf (side_of data_ canon other) d entry
+  closed_right : (entry : Entry) → IsEntry answers entry → IsClosedEntryOf (compared_side_of data_ canon other) d entry
   closed_right entry there =
       record { over = right.over; menu = answers; exact = right.exact; there = there; closed = right.closed entry there }
 
   -- an entry whose event has an answer is matched
   answered : (entry : Entry) (event : Event) → IsEntry menu entry → EventOf data_ canon one b entry event
       → HasAnswer one other Listed other_events event
-      → IsMatched (side_of data_ canon one) (side_of data_ canon other) Listed b d answers entry
+      → IsMatched (compared_side_of data_ canon one) (compared_side_of data_ canon other) Listed b d answers entry
   answered entry event there of_event has =
       let found : (answer : Entry) × (slice_get answers has.place ≡ Some answer) × EventOf data_ canon other d answer has.answer =
       entry_at data_ canon other d answers other_events right.events has.place has.answer has.there in
@@ -99,7 +99,7 @@ module _ (are_events : ClosedEntriesAreEvents) (agree_where : ClosedLabelsAgreeW
 
   -- the event of an entry that is matched has an answer
   matched : (entry : Entry) (event : Event) → IsEntry menu entry → EventOf data_ canon one b entry event
-      → IsMatched (side_of data_ canon one) (side_of data_ canon other) Listed b d answers entry
+      → IsMatched (compared_side_of data_ canon one) (compared_side_of data_ canon other) Listed b d answers entry
       → HasAnswer one other Listed other_events event
   matched entry event there of_event m =
       let found : (answer : Event) × (slice_get other_events m.there.0 ≡ Some answer) × EventOf data_ canon other d m.answer answer =
@@ -108,9 +108,9 @@ module _ (are_events : ClosedEntriesAreEvents) (agree_where : ClosedLabelsAgreeW
       (agree_where (record { data_ = data_; canon = canon; left = one; right = other; left_start = stop; right_start = stop })
       b d entry m.answer sides (closed_left entry there) (closed_right m.answer m.there)).0 m.agree in
       let here : m.target ≡ event.target =
-      are_events.to_one (side_of data_ canon one) b entry m.target event.target m.leads of_event.leads in
+      are_events.to_one (compared_side_of data_ canon one) b entry m.target event.target m.leads of_event.leads in
       let other_one : m.other_target ≡ found.0.target =
-      are_events.to_one (side_of data_ canon other) d m.answer m.other_target found.0.target m.answer_leads found.2.leads in
+      are_events.to_one (compared_side_of data_ canon other) d m.answer m.other_target found.0.target m.answer_leads found.2.leads in
       record {
         place = m.there.0;
         answer = found.0;
@@ -123,7 +123,7 @@ module _ (are_events : ClosedEntriesAreEvents) (agree_where : ClosedLabelsAgreeW
       }
 
   pub all_matched : AllAnswered one other Listed events other_events
-      → AreMatched (side_of data_ canon one) (side_of data_ canon other) Listed b d
+      → AreMatched (compared_side_of data_ canon one) (compared_side_of data_ canon other) Listed b d
   all_matched all = record {
     menu = menu;
     exact = left.exact;
@@ -136,7 +136,7 @@ module _ (are_events : ClosedEntriesAreEvents) (agree_where : ClosedLabelsAgreeW
   }
 
   pub first_unmatched : (number : ℕ) → IsFirstUnanswered one other Listed events other_events number
-      → IsFirstUnmatched (side_of data_ canon one) (side_of data_ canon other) Listed b d number
+      → IsFirstUnmatched (compared_side_of data_ canon one) (compared_side_of data_ canon other) Listed b d number
   first_unmatched number first =
       let found : (entry : Entry) × (slice_get menu first.place ≡ Some entry) × EventOf data_ canon one b entry first.event =
       entry_at data_ canon one b menu events left.events first.place first.event first.there in
@@ -152,7 +152,7 @@ module _ (are_events : ClosedEntriesAreEvents) (agree_where : ClosedLabelsAgreeW
       }
     where
       before_number : (k : ℕ) (before : Entry) → k < suc first.place → numbered_entry menu k ≡ Some before
-          → IsMatched (side_of data_ canon one) (side_of data_ canon other) Listed b d answers before
+          → IsMatched (compared_side_of data_ canon one) (compared_side_of data_ canon other) Listed b d answers before
       before_number zero before below at = absurd (cc at)
       before_number (suc k) before below at =
           let found : (event : Event) × (slice_get events k ≡ Some event) × EventOf data_ canon one b before event =

@@ -28,7 +28,7 @@ written_value n small = digits_value-decimal numerals n (wide n small)
 
 -- ---- The space
 
-no_blank_digit : (d : ℕ) → is_ascii_digit d ≡ true → d ≡ 32 → ⊥
+pub no_blank_digit : (d : ℕ) → is_ascii_digit d ≡ true → d ≡ 32 → ⊥
 no_blank_digit d digit blank = omega (arith, (digit_is d digit).0, blank)
 
 -- what stands around the first space behind digits
@@ -87,9 +87,6 @@ both_read bytes k m n e first second =
     (middle ∙ ap (λ (it : List ℕ). 32 ∷ it) (sym (take_rest bytes (k + 1)) ∙ second))
 
 -- ---- One number
-
-nonempty : (text : List ℕ) → text ≡ [] → 0 < length text → ⊥
-nonempty text e some = omega (arith, ap length e, some)
 
 pub no_digits : (text : List ℕ) → length text ≡ 0 → IsNoNumber text
 no_digits text none n small e = omega (arith, none, ap length e, decimal_nonempty n (wide n small))

@@ -1,6 +1,6 @@
 -- Pairs of states with their events.
-use Rattle.std.proofs.Common.{◌≡◌, ◌<◌, ◌+◌, ℕ, zero, suc, List, [], ◌∷◌, ◌++◌, false, true, map, length, take, Some, slice_get, refl, ap, sym, ◌∙◌, subst, arith, add-one}
-use Rattle.lotos_base.proofs.Members.{at_map}
+use Rattle.std.proofs.Common.{◌≡◌, ◌<◌, ◌+◌, ℕ, zero, suc, List, [], ◌∷◌, ◌++◌, false, true, map, length, take, Some, slice_get, ap, sym, ◌∙◌, subst, add-one}
+use Rattle.lotos_base.proofs.Members.{at_map, member_at}
 use Rattle.lotos_base.specs.Canon.{IsCanon}
 use Rattle.lotos_base.specs.Equation.{Data, HasSortedSides}
 use Rattle.lotos_base.specs.Term.{Term}
@@ -45,19 +45,13 @@ take_at [] i x there = absurd (cc there)
 take_at {X = X} (y ∷ xs) zero x there = ap (λ (it : X). it ∷ []) (some_value there)
 take_at {X = X} (y ∷ xs) (suc i) x there = ap (λ (it : List X). y ∷ it) (take_at xs i x there)
 
--- a place below the length has a member
-pub some_at : {X : Type 0} (xs : List X) (i : ℕ) → i < length xs → (x : X) × (slice_get xs i ≡ Some x)
-some_at [] i within = absurd (omega (arith, within))
-some_at (y ∷ xs) zero within = (y, refl)
-some_at (y ∷ xs) (suc i) within = some_at xs i (omega (arith, within))
-
 pub events_more : (side : ComparedSide) (b : Behaviour) (entries : List Entry) (position : ℕ) (before after : List Event)
     → position < length entries
     → ((entry : Entry) → slice_get entries position ≡ Some entry → HasNewEvent side b (plain_entry entry) before after)
     → AreEvents side b (take position (map plain_entry entries)) before
     → AreEvents side b (take (position + 1) (map plain_entry entries)) after
 events_more side b entries position before after within added so_far =
-    let found : (entry : Entry) × (slice_get entries position ≡ Some entry) = some_at entries position within in
+    let found : (entry : Entry) × (slice_get entries position ≡ Some entry) = member_at entries position within in
     let new : HasNewEvent side b (plain_entry found.0) before after = added found.0 found.1 in
     let longer : take (position + 1) (map plain_entry entries) ≡ take position (map plain_entry entries) ++ (plain_entry found.0 ∷ []) =
     ap (λ (n : ℕ). take n (map plain_entry entries)) (add-one position)

@@ -3,13 +3,11 @@ use Rattle.std.proofs.Common.{◌≡◌, ◌≢◌, ◌<◌, ◌==◌, ℕ, List
 use Rattle.std.specs.List.{position, position_or_len}
 use Rattle.std.proofs.lemmas.List.Quantifiers.{position-Some}
 use Rattle.std.proofs.lemmas.List.Sums.{fails_before_first}
-
-false_true : false ≡ true → ⊥
-false_true e = cc e
+use Rattle.std.proofs.lemmas.Bool.{false≢true}
 
 -- where a test fails, the byte is another
 other_byte : (byte b : ℕ) → (b == byte) ≡ false → b ≡ byte → ⊥
-other_byte byte b fails e = false_true (sym fails ∙ (ap (λ (x : ℕ). x == byte) e ∙ itself byte))
+other_byte byte b fails e = false≢true (sym fails ∙ (ap (λ (x : ℕ). x == byte) e ∙ itself byte))
   where
     itself : (n : ℕ) → (n == n) ≡ true
     itself n = grind arith

@@ -305,8 +305,3 @@ pairs_within (lists_pair i j ∷ lines) = omega (arith, pairs_within lines)
 pub few_pairs : (c : Comparison) (lines : List CertificateLine) (r last : PlainReading) (number : ℕ) → LinesAreRead c r number lines last
     → length last.pairs ≤ length r.pairs + length lines
 few_pairs c lines r last number read = omega (arith, lines_counted c lines read, pairs_within lines)
-
--- what is there place by place
-pub every_from : {X : Type 0} (P : X → Type 0) (xs : List X) → ((k : ℕ) (x : X) → slice_get xs k ≡ Some x → P x) → Every P xs
-every_from P [] each = tt
-every_from P (x ∷ xs) each = (each 0 x refl, every_from P xs (λ k. each (suc k)))

@@ -1,6 +1,7 @@
 -- Where entries without variables lead, as the code steps.
-use Rattle.std.proofs.Common.{◌≡◌, List, [], ◌∷◌, None, map, refl, ap, sym, ◌∙◌, subst}
+use Rattle.std.proofs.Common.{◌≡◌, [], None, map, ap, sym, ◌∙◌, subst}
 use Rattle.std.proofs.lemmas.Option.{none-some}
+use Rattle.std.proofs.lemmas.Simd.{map-map}
 use Rattle.lotos_base.specs.Canon.{IsCanon}
 use Rattle.lotos_base.specs.Substitution.{substituted}
 use Rattle.lotos_base.specs.Term.{Term}
@@ -59,10 +60,6 @@ closed_entry data_ canon spec surveyed entry side is_canon h there closed = reco
   closed = closed;
 }
 
-map_twice : (f g : Term → Term) (ts : List Term) → map (λ (t : Term). f (g t)) ts ≡ map f (map g ts)
-map_twice f g [] = refl
-map_twice f g (t ∷ ts) = ap (λ (it : List Term). f (g t) ∷ it) (map_twice f g ts)
-
 -- the derivation with canonical leaves is the one as the entry has it
 pub own_derivation : ClosedEntriesAreEvents → (side : ComparedSide) (b : Behaviour) (entry : solving.Entry) → IsClosedEntryOf side b entry
     → canonical_derivation side.canon entry [] ≡ derivation_at entry []
@@ -70,7 +67,7 @@ own_derivation laws side b entry h =
     let stays : map (substituted (leaves_in [])) entry.leaves ≡ entry.leaves = leaves_stay entry in
     let leaves : map (λ (t : Term). side.canon (substituted (leaves_in []) t)) entry.leaves
     ≡ map (substituted (leaves_in [])) entry.leaves =
-    map_twice side.canon (substituted (leaves_in [])) entry.leaves
+    sym (map-map side.canon (substituted (leaves_in [])) entry.leaves)
     ∙ (ap (map side.canon) stays ∙ (laws.leaves side b entry h ∙ sym stays)) in
     (λ i. record { shape = entry.shape; leaves = leaves i })
 

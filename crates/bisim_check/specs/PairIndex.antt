@@ -6,7 +6,7 @@ use Rattle.behaviour_semantics.specs.Behaviour.{Behaviour}
 use Rattle.certificate_theory.specs.Certificate.{ListedPair}
 use Rattle.path_order.specs.HeadIndexView.{numbers_at}
 use Rattle.path_order.specs.declared.head_index.HeadIndex.{HeadIndex}
-use Rattle.bisim_check.specs.Readings.{pairs_in, ArePlaced}
+use Rattle.bisim_check.specs.Readings.{listed_pairs_in, ArePlaced}
 use Rattle.bisim_check.specs.declared.readings.Reading.{Reading}
 
 -- the bucket of two states
@@ -38,4 +38,4 @@ pub record PairStandsAt (pairs : List ListedPair) (b c : Behaviour) (number : â„
 -- The states of all pairs are there, and the index is that of the pairs.
 pub record IsSearchable (reading : Reading) (index : HeadIndex) : Type 0 where
   pub placed : ArePlaced reading
-  pub filed : IsPairIndex (pairs_in reading) index
+  pub filed : IsPairIndex (listed_pairs_in reading) index

@@ -36,14 +36,14 @@ pair_among lefts rights listed =
 abbrev pub pairs_among : List Surveyed → List Surveyed → List Listed → List ListedPair
 pairs_among lefts rights pairs = map (pair_among lefts rights) pairs
 
-abbrev pub pairs_in : Reading → List ListedPair
-pairs_in reading = pairs_among reading.lefts.items reading.rights.items reading.pairs.items
+abbrev pub listed_pairs_in : Reading → List ListedPair
+listed_pairs_in reading = pairs_among reading.lefts.items reading.rights.items reading.pairs.items
 
 abbrev pub reading_of : Reading → PlainReading
 reading_of reading = record {
   lefts = behaviours_in reading.lefts.items;
   rights = behaviours_in reading.rights.items;
-  pairs = pairs_in reading;
+  pairs = listed_pairs_in reading;
 }
 
 -- No entry of the menu has a variable.

@@ -12,14 +12,14 @@ use Rattle.behaviour_tree.specs.Over.{IsSpecOver, IsStateOf}
 use Rattle.behaviour_tree.specs.StateView.{state_of}
 use Rattle.behaviour_tree.specs.declared.definitions.Spec.{Spec}
 use Rattle.behaviour_tree.specs.declared.states.State.{State}
-use Rattle.certificate_theory.specs.Certificate.{ComparedSide, side_of}
+use Rattle.certificate_theory.specs.Certificate.{ComparedSide, compared_side_of}
 use Rattle.menu_builder.specs.HandedOn.{IsEntryOver}
 use Rattle.menu_builder.specs.Menus.{entries_in}
 use Rattle.bisim_check.specs.declared.surveys.Surveyed.{Surveyed}
 
 -- the side of a comparison that the specification is
 abbrev pub side_over : Data → (Term → Term) → Spec → ComparedSide
-side_over data_ canon spec = side_of data_ canon (specification_of spec)
+side_over data_ canon spec = compared_side_of data_ canon (specification_of spec)
 
 -- The specification is over the signature.
 pub record IsSideOf (signature : Signature) (spec : Spec) : Type 0 where

@@ -8,7 +8,7 @@ ghost use Rattle.bisim_check.specs.PairIndex.{IsPairIndex};
 ghost use Rattle.bisim_check.specs.Readings.{
   comparison_of,
   pair_among,
-  pairs_in,
+  listed_pairs_in,
   reading_of,
   IsKeptReading,
   IsListedPair,
@@ -280,9 +280,9 @@ fn check_listed<D: Deciding>(
     requires sides { HasSortedSides (D.known_data data.old) }
     ensures matched { (b c : Behaviour) → MatchResult result
         (λ _. AllPairsAreMatched (comparison_of (D.known_data data.old) (D.canon data.old)
-        left.now right.now b c) (pairs_in reading.now))
+        left.now right.now b c) (listed_pairs_in reading.now))
         (TellsPairs (PairsFail (comparison_of (D.known_data data.old) (D.canon data.old)
-        left.now right.now b c) (pairs_in reading.now))) }
+        left.now right.now b c) (listed_pairs_in reading.now))) }
     ensures same_known { KeepsData D.known_data D.canon data.old data.new }
 {
     let made = pair_index(alloc, reading)?;
@@ -314,15 +314,15 @@ fn check_pair<D: Deciding>(
     requires right { IsSideOf (D.known_data data.old).signature right.now }
     requires kept { IsKeptReading (D.known_data data.old) (D.canon data.old) left.now right.now
         reading.now }
-    requires indexed { IsPairIndex (pairs_in reading.now) index.now }
+    requires indexed { IsPairIndex (listed_pairs_in reading.now) index.now }
     requires listed { IsListedPair reading.now.lefts.items reading.now.rights.items listed.now }
     requires sides { HasSortedSides (D.known_data data.old) }
     ensures matched { (b c : Behaviour) → MatchResult result
         (λ _. PairIsMatched (comparison_of (D.known_data data.old) (D.canon data.old) left.now
-        right.now b c) (pairs_in reading.now) (pair_among reading.now.lefts.items
+        right.now b c) (listed_pairs_in reading.now) (pair_among reading.now.lefts.items
         reading.now.rights.items listed.now))
         (TellsPairs (PairFails (comparison_of (D.known_data data.old) (D.canon data.old)
-        left.now right.now b c) (pairs_in reading.now) (pair_among reading.now.lefts.items
+        left.now right.now b c) (listed_pairs_in reading.now) (pair_among reading.now.lefts.items
         reading.now.rights.items listed.now))) }
     ensures same_known { KeepsData D.known_data D.canon data.old data.new }
 {

@@ -4,7 +4,7 @@ ghost use Rattle.bisim_check.specs.Events.{event_of, IsUnanswered};
 ghost use Rattle.bisim_check.specs.Faults.{TellsPairs};
 ghost use Rattle.bisim_check.specs.Matching.{AllAnswered, HasAnswer, IsAnswer, ListedTowards};
 ghost use Rattle.bisim_check.specs.PairIndex.{PairStandsAt, IsSearchable};
-ghost use Rattle.bisim_check.specs.Readings.{behaviour_at, pairs_in, ArePlaced, IsPlacedPair};
+ghost use Rattle.bisim_check.specs.Readings.{behaviour_at, listed_pairs_in, ArePlaced, IsPlacedPair};
 ghost use Rattle.certificate_theory.specs.Agreement.{AreOneGate, IdenticalLabels};
 ghost use Rattle.certificate_theory.specs.Certificate.{AreListed};
 ghost use Rattle.behaviour_tree.specs.DefinitionView.{specification_of};
@@ -39,10 +39,10 @@ pub fn check_events(
     requires { IsSearchable reading.now index.now }
     ensures { MatchResult result
         (λ _. AllAnswered (specification_of one.now) (specification_of other.now)
-        (ListedTowards right (pairs_in reading.now)) (map event_of events.now.items)
+        (ListedTowards right (listed_pairs_in reading.now)) (map event_of events.now.items)
         (map event_of answers.now.items))
         (TellsPairs (IsUnanswered (specification_of one.now) (specification_of other.now)
-        (ListedTowards right (pairs_in reading.now)) right line
+        (ListedTowards right (listed_pairs_in reading.now)) right line
         (map event_of events.now.items) (map event_of answers.now.items))) }
 {
     for position in 0..events.len() {
@@ -77,7 +77,7 @@ fn has_answer(
 ) -> bool
     requires { IsSearchable reading.now index.now }
     ensures { IsTrue result ↔ HasAnswer (specification_of one.now) (specification_of other.now)
-        (ListedTowards right (pairs_in reading.now)) (map event_of answers.now.items)
+        (ListedTowards right (listed_pairs_in reading.now)) (map event_of answers.now.items)
         (event_of event.now) }
 {
     for position in 0..answers.len() {
@@ -100,7 +100,7 @@ fn is_answer(
 ) -> bool
     requires { IsSearchable reading.now index.now }
     ensures { IsTrue result ↔ IsAnswer (specification_of one.now) (specification_of other.now)
-        (ListedTowards right (pairs_in reading.now)) (event_of event.now)
+        (ListedTowards right (listed_pairs_in reading.now)) (event_of event.now)
         (event_of answer.now) }
 {
     if !same_labels(one, &event.label, other, &answer.label) {
@@ -164,7 +164,7 @@ fn are_listed(
     other: &State,
 ) -> bool
     requires { IsSearchable reading.now index.now }
-    ensures { IsTrue result ↔ ListedTowards right (pairs_in reading.now)
+    ensures { IsTrue result ↔ ListedTowards right (listed_pairs_in reading.now)
         (state_of state.now) (state_of other.now) }
 {
     if right {
@@ -176,7 +176,7 @@ fn are_listed(
 // Whether some pair has the one state on the left and the other one on the right.
 fn is_listed(reading: &Reading, index: &HeadIndex, left: &State, right: &State) -> bool
     requires { IsSearchable reading.now index.now }
-    ensures { IsTrue result ↔ AreListed (pairs_in reading.now) (state_of left.now)
+    ensures { IsTrue result ↔ AreListed (listed_pairs_in reading.now) (state_of left.now)
         (state_of right.now) }
 {
     for number in index.under(bucket(left, right)) {
@@ -190,7 +190,7 @@ fn is_listed(reading: &Reading, index: &HeadIndex, left: &State, right: &State) 
 // Whether the pair with this number has the one state on the left and the other one on the right.
 fn is_numbered(reading: &Reading, number: usize, left: &State, right: &State) -> bool
     requires { ArePlaced reading.now }
-    ensures { IsTrue result ↔ PairStandsAt (pairs_in reading.now) (state_of left.now)
+    ensures { IsTrue result ↔ PairStandsAt (listed_pairs_in reading.now) (state_of left.now)
         (state_of right.now) number }
 {
     match reading.pairs.get(number) {

@@ -2,7 +2,7 @@
 
 ghost use Rattle.behaviour_tree.specs.StateView.{state_of};
 ghost use Rattle.bisim_check.specs.PairIndex.{bucket_of, AddsNumber, IsPairIndex};
-ghost use Rattle.bisim_check.specs.Readings.{pair_among, pairs_in, ArePlaced, IsPlacedPair};
+ghost use Rattle.bisim_check.specs.Readings.{pair_among, listed_pairs_in, ArePlaced, IsPlacedPair};
 ghost use Rattle.std.specs.Prelude.{◌≡◌, ℕ, IfOk, OnOk, length};
 
 use crate::matching::state_at;
@@ -17,7 +17,7 @@ use std::alloc::Global;
 /// The numbers of the pairs, each in the bucket of its states.
 pub fn pair_index(alloc: Global, reading: &Reading) -> Result<HeadIndex, NoMemory>
     requires { ArePlaced reading.now }
-    ensures { IfOk result (IsPairIndex (pairs_in reading.now)) }
+    ensures { IfOk result (IsPairIndex (listed_pairs_in reading.now)) }
 {
     let mut made = HeadIndex::new(alloc, 65_536)?;
     for number in 0..reading.pairs.len() {

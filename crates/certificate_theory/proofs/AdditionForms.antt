@@ -10,11 +10,11 @@ use Rattle.rewriting_theory.specs.Rule.{Rule, AreWellFormedRules}
 use Rattle.rewriting_theory.specs.Matching.{NoMatch}
 use Rattle.rewriting_theory.specs.Rewriting.{IsNormal}
 use Rattle.rewriting_theory.specs.ChosenForm.{Chosen, chosen_variable, chosen_done, chosen_next, AllChosen, all_chosen, chosen_then}
-use Rattle.rewriting_theory.proofs.MatchLemmas.{no_match_then, first_step_later, first_step_here}
+use Rattle.rewriting_theory.proofs.MatchLemmas.{no_match_then, first_step_later, first_step_here, no_rule}
 use Rattle.rewriting_theory.proofs.PublicLemmas.{normal_chosen, chosen_normal}
 use Rattle.termination_theory.specs.Orientation.{NumberedRule}
 use Rattle.termination_theory.specs.OrderCases.{later_above}
-use Rattle.termination_theory.specs.OrientationCases.{rule_of, addition_rules}
+use Rattle.termination_theory.specs.OrientationCases.{rule_from_equation, addition_rules}
 use Rattle.termination_theory.proofs.AdditionLemmas.{addition_canon_cases}
 use Rattle.termination_theory.proofs.OrientationCaseLemmas.{addition_cases}
 use Rattle.termination_theory.proofs.ChosenCanonLemmas.{sorted_rules, chosen_canon}
@@ -30,8 +30,8 @@ second_rule = record { left = plus (successor x_natural) y_natural; right = succ
 
 abbrev numbered : List NumberedRule
 numbered =
-    rule_of 0 (plus nought x_natural) x_natural
-    ∷ rule_of 1 (plus (successor x_natural) y_natural) (successor (plus x_natural y_natural))
+    rule_from_equation 0 (plus nought x_natural) x_natural
+    ∷ rule_from_equation 1 (plus (successor x_natural) y_natural) (successor (plus x_natural y_natural))
     ∷ []
 
 sorted_sides : HasSortedSides natural_data
@@ -41,9 +41,6 @@ well_formed : AreWellFormedRules addition_rules
 well_formed = (sorted_rules later_above natural_data numbered sorted_sides addition_cases.rules).well_formed
 
 -- ---- what no rule matches
-
-no_rule : (t : Term) → NoMatch [] t
-no_rule t rule is match = absurd (cc (is.1))
 
 no_match : (t : Term) → ((u : Term) → t ≡ plus nought u → ⊥) → ((a u : Term) → t ≡ plus (successor a) u → ⊥)
     → NoMatch addition_rules t

@@ -1,10 +1,8 @@
 -- Alike behaviours with terms of one sort at the same places move alike, in any form of values, by derivations of one shape with
 -- equal leaves.
-use Rattle.std.proofs.Common.{◌≡◌, ◌≤◌, ℕ, List, [], ◌∷◌, Some, refl, sym, ◌∙◌, subst, arith}
-use Rattle.lotos_base.specs.Signature.{Signature}
+use Rattle.std.proofs.Common.{◌≡◌, ◌≤◌, ℕ, List, [], Some, refl, subst, arith}
 use Rattle.lotos_base.specs.Term.{Term, variable}
 use Rattle.lotos_base.specs.Equation.{Data}
-use Rattle.lotos_base.proofs.SortLemmas.{sort_of_sorted}
 use Rattle.behaviour_semantics.specs.Behaviour.{Behaviour, Process, Specification}
 use Rattle.behaviour_semantics.specs.Label.{Label}
 use Rattle.behaviour_semantics.specs.Rule.{as_given, AreValues}
@@ -16,7 +14,6 @@ use Rattle.behaviour_semantics.specs.Transition.{Transition}
 use Rattle.behaviour_semantics.specs.Menu.{EqualLabels}
 use Rattle.behaviour_semantics.specs.WellFormed.{IsClosedBehaviour, AreOver}
 use Rattle.behaviour_semantics.specs.EqualLeavesLaws.{EqualDerivations}
-use Rattle.behaviour_semantics.proofs.OptionLemmas.{some_value}
 use Rattle.behaviour_semantics.proofs.RelatedTerms.{Side, IsRepresenting, given_represents}
 use Rattle.behaviour_semantics.proofs.RelatedBehaviours.{Beside}
 use Rattle.behaviour_semantics.proofs.SameBehaviours.{low_nothing, same_beside, turned_beside}
@@ -24,7 +21,7 @@ use Rattle.behaviour_semantics.proofs.RelatedMoves.{Answer, setting_of, follows}
 use Rattle.behaviour_semantics.proofs.InstanceLemmas.{plain, plain_grounded, bodies_of, asked_over}
 use Rattle.behaviour_semantics.proofs.AlikeLemmas.{alike_behaviours}
 use Rattle.behaviour_semantics.proofs.FollowingMoves.{hold_plain}
-use Rattle.behaviour_semantics.proofs.EqualLeaves.{leaves_related, equal_labels}
+use Rattle.behaviour_semantics.proofs.EqualLeaves.{leaves_related, equal_labels, one_list}
 use Rattle.certificate_theory.specs.SameSorts.{AreAlikeInSorts}
 use Rattle.certificate_theory.specs.BisimulationLaws.{AlikeTransition}
 use Rattle.certificate_theory.proofs.EqualValues.{terms_itself}
@@ -67,20 +64,6 @@ module _ (data_ : Data) (specification : Specification) where
       (same_beside data_ (above b) plain_side plain_side _ specification.processes [] b (low_nothing data_ (above b)) le f)
 
 -- ---- Moves.
-
--- Values that have two lists of sorts have one list.
-pub one_list : (signature : Signature) (sorts others : List ℕ) (vs : List Term) → AreValues signature sorts vs
-    → AreValues signature others vs → sorts ≡ others
-one_list signature [] [] vs g h = refl
-one_list signature (s ∷ sorts) (r ∷ others) (v ∷ vs) g h =
-    let head : s ≡ r = some_value (sym (sort_of_sorted signature v s g.0.sorted) ∙ sort_of_sorted signature v r h.0.sorted) in
-    let tail : sorts ≡ others = one_list signature sorts others vs g.1 h.1 in
-    cc (head, tail)
-one_list signature [] (r ∷ others) [] g h = absurd h
-one_list signature [] (r ∷ others) (v ∷ vs) g h = absurd g
-one_list signature (s ∷ sorts) [] [] g h = absurd g
-one_list signature (s ∷ sorts) [] (v ∷ vs) g h = absurd h
-one_list signature (s ∷ sorts) (r ∷ others) [] g h = absurd g
 
 -- A move that the derivation gives, with an equal label and a target that is alike both ways.
 pub record Moved (data_ : Data) (represent : Term → Term) (processes : List Process) (c : Behaviour) (d : Derivation) (label : Label)

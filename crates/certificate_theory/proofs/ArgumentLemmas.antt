@@ -6,9 +6,9 @@ use Rattle.std.proofs.lemmas.Option.{same_Some}
 use Rattle.lotos_base.specs.Signature.{Signature, IsSort}
 use Rattle.lotos_base.specs.Term.{Term, variable, node, Terms, no_terms, term_then}
 use Rattle.lotos_base.specs.Sorting.{HasSort, HaveSorts, AreGround, IsGroundOf, Occurs, OccursAmong}
-use Rattle.lotos_base.specs.Path.{argument_at, with_argument, subterm}
+use Rattle.lotos_base.specs.Path.{argument_at, with_argument}
 use Rattle.lotos_base.specs.Substitution.{Substitution, substituted, all_substituted, followed_by, KeepsSorts}
-use Rattle.lotos_base.proofs.PathLemmas.{subterm_below, subterm_under, put_under}
+use Rattle.lotos_base.proofs.PathLemmas.{subterm_under, put_under}
 use Rattle.lotos_base.proofs.SubstitutionLemmas.{substituted_twice, substituted_agree, all_substituted_agree, substituted_occurs, occurs_substituted}
 use Rattle.rewriting_theory.specs.Rule.{Rule}
 use Rattle.rewriting_theory.specs.Rewriting.{IsNormal}
@@ -31,12 +31,6 @@ pub record IsSmall (signature : Signature) (rules : List Rule) (k s : ℕ) (t : 
   pub ground_of : IsGroundOf signature s t
   pub normal : IsNormal rules t
   pub small : size t < k
-
-pub small_more : {signature : Signature} {rules : List Rule} {j k s : ℕ} {t : Term} → j ≤ k → IsSmall signature rules j s t
-    → IsSmall signature rules k s t
-small_more le h =
-    let less = h.small in
-    record { ground_of = h.ground_of; normal = h.normal; small = omega (arith, le, less) }
 
 -- ---- arguments
 
@@ -85,14 +79,6 @@ pub argument_occurs : (k : ℕ) (ts : Terms) (a : Term) (n s : ℕ) → argument
 argument_occurs k no_terms a n s e o = absurd (cc e)
 argument_occurs zero (term_then t ts) a n s e o = inl (subst (Occurs n s) (sym (same_Some t a e)) o)
 argument_occurs (suc k) (term_then t ts) a n s e o = inr (argument_occurs k ts a n s e o)
-
--- a variable of a part is one of the whole
-pub part_occurs : (path : List ℕ) (t part : Term) (n s : ℕ) → subterm path t ≡ Some part → Occurs n s part → Occurs n s t
-part_occurs [] t part n s e o = subst (Occurs n s) (sym (same_Some t part e)) o
-part_occurs (k ∷ path) (variable m r) part n s e o = absurd (cc e)
-part_occurs (k ∷ path) (node f ts) part n s e o =
-    let below = subterm_below k path f ts part e in
-    argument_occurs k ts below.argument n s below.found (part_occurs path below.argument part n s below.inside o)
 
 -- ---- new variables
 

@@ -9,14 +9,14 @@ use Rattle.lotos_base.specs.Sorting.{HasSort, Occurs}
 use Rattle.lotos_base.specs.Substitution.{substituted, is_listed}
 use Rattle.lotos_base.proofs.Members.{at_front}
 use Rattle.lotos_base.proofs.SubstitutionLemmas.{substituted_sort}
-use Rattle.lotos_base.proofs.ExampleHelpers.{Each}
+use Rattle.lotos_base.proofs.Each.{Each, each_join}
 use Rattle.certificate_theory.specs.InductionCertificate.{Statement}
 use Rattle.certificate_theory.specs.Covers.{IsListedIn, Numbered}
 use Rattle.certificate_theory.specs.Patterns.{put_for, operation_on}
 use Rattle.certificate_theory.specs.Splits.{Theory, Case, Proving, IsInScope, in_both, hypotheses_for, hypotheses_behind, case_with}
 use Rattle.certificate_theory.specs.Certified.{IsFit}
 use Rattle.certificate_theory.specs.Requirements.{OccursInSide}
-use Rattle.certificate_theory.proofs.Each.{each_more, each_join, each_map, at_back, from_join}
+use Rattle.certificate_theory.proofs.Each.{each_more, each_map, at_back, from_join}
 use Rattle.certificate_theory.proofs.ArgumentLemmas.{from_occurs, variables_sorts, AreOne, put_occurs, put_keeps}
 
 -- A hypothesis is sorted, its variables are listed with their sorts, and the fixed ones of them are not gone.

@@ -10,7 +10,7 @@ use Rattle.lotos_base.specs.Sorting.{IsGroundOf, Occurs}
 use Rattle.lotos_base.specs.Substitution.{Substitution, IsGrounding}
 use Rattle.lotos_base.specs.Equality.{Equal}
 use Rattle.lotos_base.specs.SmallData.{natural_signature, natural_data, nought, successor, plus, x_natural, y_natural}
-use Rattle.lotos_base.proofs.ExampleHelpers.{Each, each_member}
+use Rattle.lotos_base.proofs.Each.{Each, each_member}
 use Rattle.certificate_theory.specs.InductionCertificate.{PatternTree, ProofLine, Lemma, Certificate}
 use Rattle.certificate_theory.specs.Faults.{InductionFault}
 use Rattle.certificate_theory.specs.Certified.{IsStated, IsCertificateOver, IsCertified, IsInductionFault}
@@ -137,10 +137,6 @@ sums_commute t u first second =
     (left_values t u first second) (right_values t u first second)
 
 -- ---- requirements
-
--- the arguments of a sum
-first_same : (t u v w : Term) → plus t u ≡ plus v w → t ≡ v
-first_same t u v w e = cc e
 
 second_same : (t u v w : Term) → plus t u ≡ plus v w → u ≡ w
 second_same t u v w e = cc e

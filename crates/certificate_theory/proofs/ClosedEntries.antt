@@ -1,17 +1,16 @@
 -- Entries without variables of exact menus: each is one event, and where a menu has no other entries each transition has one.
 use Rattle.std.proofs.Common.{◌≡◌, ℕ, List, [], ◌∷◌, map, refl, ap, sym, ◌∙◌, subst}
-use Rattle.lotos_base.specs.Term.{Term, variable}
+use Rattle.lotos_base.specs.Term.{Term}
 use Rattle.lotos_base.specs.Sorting.{IsGround}
 use Rattle.lotos_base.specs.Equation.{Data}
-use Rattle.lotos_base.specs.Substitution.{substituted}
-use Rattle.lotos_base.proofs.SubstitutionLemmas.{substituted_variables, no_variable_ground}
+use Rattle.lotos_base.proofs.SubstitutionLemmas.{no_variable_ground}
 use Rattle.behaviour_semantics.specs.Behaviour.{Behaviour, Test, Specification}
-use Rattle.behaviour_semantics.specs.Label.{Label, inner_event, gate_event, exit_event}
+use Rattle.behaviour_semantics.specs.Label.{Label}
 use Rattle.behaviour_semantics.specs.Replacement.{test_with}
 use Rattle.behaviour_semantics.specs.Rule.{as_given, AllHold, AreValues}
 use Rattle.behaviour_semantics.specs.Shape.{Shape, Derivation}
 use Rattle.behaviour_semantics.specs.Derives.{Derives, leaves_in}
-use Rattle.behaviour_semantics.specs.Draft.{Draft, draft_of, label_with, variable_sorts}
+use Rattle.behaviour_semantics.specs.Draft.{Draft, draft_of, variable_sorts}
 use Rattle.behaviour_semantics.specs.Transition.{Transition}
 use Rattle.behaviour_semantics.specs.TransitionLaws.{MovesAreDetermined}
 use Rattle.behaviour_semantics.specs.Solving.{Entry}
@@ -22,7 +21,8 @@ use Rattle.behaviour_semantics.specs.EqualLeavesLaws.{EqualDerivations}
 use Rattle.behaviour_semantics.specs.InstanceLaws.{DraftOf}
 use Rattle.behaviour_semantics.proofs.OptionLemmas.{some_value}
 use Rattle.behaviour_semantics.proofs.RelatedTerms.{canon_represents, given_represents}
-use Rattle.certificate_theory.specs.Certificate.{side_of}
+use Rattle.behaviour_semantics.proofs.ReplacementLemmas.{terms_stay, label_stays}
+use Rattle.certificate_theory.specs.Certificate.{compared_side_of}
 use Rattle.certificate_theory.specs.SameSorts.{AreAlikeInSorts}
 use Rattle.certificate_theory.specs.NamedStates.{IsClosedEntry, EntryLeads}
 use Rattle.certificate_theory.proofs.EqualValues.{terms_back, labels_back}
@@ -49,17 +49,6 @@ no_values data_ entry values none meets = by values (subst (λ (sorts : List ℕ
     by : (values : List Term) → AreValues data_.signature [] values → values ≡ []
     by [] are = refl
     by (v ∷ vs) are = absurd are
-
-terms_stay : (terms : List Term) → map (substituted (leaves_in [])) terms ≡ terms
-terms_stay [] = refl
-terms_stay (t ∷ ts) =
-    let first : substituted variable t ≡ t = substituted_variables t in
-    let rest = terms_stay ts in (λ i. first i ∷ rest i)
-
-label_stays : (label : Label) → label_with (leaves_in []) label ≡ label
-label_stays inner_event = refl
-label_stays (gate_event g terms) = ap (gate_event g) (terms_stay terms)
-label_stays (exit_event terms) = ap exit_event (terms_stay terms)
 
 pub leaves_stay : (entry : Entry) → (derivation_at entry []).leaves ≡ entry.leaves
 leaves_stay entry = terms_stay entry.leaves
@@ -104,7 +93,7 @@ module _ (laws : MoveLaws) (data_ : Data) (canon : Term → Term) (specification
 
   -- The entry leads on.
   pub leads_on : (entry : Entry) → IsEntry menu entry → IsClosedEntry entry
-      → (target : Behaviour) × EntryLeads (side_of data_ canon specification) b entry target
+      → (target : Behaviour) × EntryLeads (compared_side_of data_ canon specification) b entry target
   leads_on entry listed none =
       let e : EntryMove entry = entry_move entry listed none in
       let d : Derivation = derivation_at entry [] in
@@ -123,7 +112,7 @@ module _ (laws : MoveLaws) (data_ : Data) (canon : Term → Term) (specification
     pub alike : AreAlikeInSorts data_ target reached
 
   pub entry_event : (entry : Entry) (target : Behaviour) → IsEntry menu entry → IsClosedEntry entry
-      → EntryLeads (side_of data_ canon specification) b entry target → EntryEvent entry target
+      → EntryLeads (compared_side_of data_ canon specification) b entry target → EntryEvent entry target
   entry_event entry target listed none leads =
       let e : EntryMove entry = entry_move entry listed none in
       let d : Derivation = derivation_at entry [] in
@@ -148,7 +137,7 @@ module _ (laws : MoveLaws) (data_ : Data) (canon : Term → Term) (specification
     pub listed : IsEntry menu entry
     pub labels : EqualLabels data_ label entry.label
     pub reached : Behaviour
-    pub leads : EntryLeads (side_of data_ canon specification) b entry reached
+    pub leads : EntryLeads (compared_side_of data_ canon specification) b entry reached
     pub alike : AreAlikeInSorts data_ reached target
 
   -- Two derivations of one shape have leaves of the same sorts, those of the shape's draft.
@@ -200,8 +189,8 @@ module _ (laws : MoveLaws) (data_ : Data) (canon : Term → Term) (specification
 
 -- An entry leads to one behaviour.
 pub leads_once : MovesAreDetermined → (data_ : Data) (canon : Term → Term) (specification : Specification) (b : Behaviour) (entry : Entry)
-    (target another : Behaviour) → EntryLeads (side_of data_ canon specification) b entry target
-    → EntryLeads (side_of data_ canon specification) b entry another → target ≡ another
+    (target another : Behaviour) → EntryLeads (compared_side_of data_ canon specification) b entry target
+    → EntryLeads (compared_side_of data_ canon specification) b entry another → target ≡ another
 leads_once determined data_ canon specification b entry target another one other =
     (determined data_ canon specification.processes b (derivation_at entry []) one.label other.label target another one.keeps
     other.keeps).targets

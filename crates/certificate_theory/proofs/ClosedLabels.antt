@@ -14,7 +14,7 @@ use Rattle.behaviour_semantics.specs.Solving.{Entry}
 use Rattle.behaviour_semantics.specs.SolvingLaws.{IsCanonical, IsSolved, IsTermOver}
 use Rattle.behaviour_semantics.specs.Menu.{EqualTerms, EqualLabels, derivation_at}
 use Rattle.behaviour_semantics.specs.WellFormed.{Every, IsClosedLabel}
-use Rattle.certificate_theory.specs.Certificate.{side_of}
+use Rattle.certificate_theory.specs.Certificate.{compared_side_of}
 use Rattle.certificate_theory.specs.Agreement.{AgreeingLabels, IdenticalLabels}
 use Rattle.certificate_theory.specs.AgreementLaws.{IsClosedEntryOf, ClosedLabelsAgreeWhereIdentical, ClosedEntriesAreEvents}
 use Rattle.certificate_theory.proofs.EqualValues.{terms_itself}
@@ -84,7 +84,8 @@ module _ (data_ : Data) (canon : Term → Term) (sides : HasSortedSides data_) w
   label_canonical specification (exit_event us) (gate_event h vs) canonical over same closed = absurd same
 
   entry_canonical : MoveLaws → (specification : Specification) (b : Behaviour) (entry : Entry)
-      → IsClosedEntryOf (side_of data_ canon specification) b entry → Every (IsCanonicalValue data_ canon) (label_values entry.label)
+      → IsClosedEntryOf (compared_side_of data_ canon specification) b entry
+      → Every (IsCanonicalValue data_ canon) (label_values entry.label)
   entry_canonical laws specification b entry it =
       let e : EntryMove laws data_ canon specification b it.over it.menu it.exact entry =
       entry_move laws data_ canon specification b it.over it.menu it.exact entry it.there it.closed in

@@ -8,10 +8,11 @@ use Rattle.lotos_base.specs.Term.{Term, variable, node, Terms}
 use Rattle.lotos_base.specs.Sorting.{HaveSorts, IsGroundOf, Occurs}
 use Rattle.lotos_base.specs.Substitution.{Substitution, substituted, followed_by, is_listed}
 use Rattle.lotos_base.proofs.SubstitutionLemmas.{substituted_twice, substituted_agree}
-use Rattle.lotos_base.proofs.ExampleHelpers.{Each}
+use Rattle.lotos_base.proofs.Each.{Each}
 use Rattle.rewriting_theory.specs.Rule.{Rule, IsRule}
 use Rattle.rewriting_theory.specs.Matching.{Matches}
 use Rattle.rewriting_theory.specs.Rewriting.{IsNormal}
+use Rattle.rewriting_theory.proofs.OverlapLemmas.{subterm_occurs}
 use Rattle.certificate_theory.specs.InductionCertificate.{Cover, TreeLine, split_pattern, leaf_here, PatternTree}
 use Rattle.certificate_theory.specs.Lines.{DealsWith, AreRightBehind, no_more, right_then}
 use Rattle.certificate_theory.specs.Covers.{IsListedIn, IsCoveredBy, cover_of, Numbered, listed_from, in_signature_order, IsRightCover}
@@ -20,7 +21,7 @@ use Rattle.certificate_theory.specs.Splits.{Theory}
 use Rattle.certificate_theory.specs.Certified.{with_trees, IsRightTree, AreComplete}
 use Rattle.certificate_theory.proofs.Each.{each_of_map}
 use Rattle.certificate_theory.proofs.LineLemmas.{deals_each}
-use Rattle.certificate_theory.proofs.ArgumentLemmas.{size, sizes, IsSmall, AllArguments, small_arguments_of, part_occurs, from_occurs, extended, extended_below, extended_at, extended_terms, replaced, AreOne, replaced_cases, split_instance, put_occurs}
+use Rattle.certificate_theory.proofs.ArgumentLemmas.{size, sizes, IsSmall, AllArguments, small_arguments_of, from_occurs, extended, extended_below, extended_at, extended_terms, replaced, AreOne, replaced_cases, split_instance, put_occurs}
 
 -- ---- the cover of a sort
 
@@ -206,7 +207,7 @@ line_no_form signature rules covers k covered pattern leaf_here parts comes each
     leaf_no_form signature rules k pattern comes.0.0 comes.0.1 comes.0.2
 line_no_form signature rules covers k covered pattern (split_pattern path) parts comes each =
     split_no_form signature rules covers k pattern comes.0 comes.1 comes.2 covered
-    (part_occurs path pattern.term (variable comes.0 comes.1) comes.0 comes.1 comes.3 (refl, refl)) comes.4
+    (subterm_occurs path pattern.term (variable comes.0 comes.1) comes.0 comes.1 comes.3 (refl, refl)) comes.4
     (subst (Each (HasNoForm signature rules k)) comes.5 each)
 
 -- ---- covers hold

@@ -1,8 +1,9 @@
 -- A certificate has at most one first fault, and a right one has none.
-use Rattle.std.proofs.Common.{◌≡◌, ◌<◌, ℕ, zero, suc, ◌+◌, List, [], ◌∷◌, ◌++◌, length, refl, ap, sym, ◌∙◌, subst, inl, inr, arith}
+use Rattle.std.proofs.Common.{◌≡◌, ◌<◌, ℕ, suc, ◌+◌, List, [], ◌∷◌, ◌++◌, length, refl, ap, sym, ◌∙◌, subst, inl, inr}
 use Rattle.std.specs.Prelude.{◌⊎◌, slice_get}
 use Rattle.std.proofs.lemmas.Option.{same_Some}
 use Rattle.lotos_base.specs.Signature.{Signature, Operation}
+use Rattle.rewriting_theory.proofs.PairListLemmas.{neither_less}
 use Rattle.certificate_theory.specs.InductionCertificate.{Cover, PatternTree, Lemma, Certificate}
 use Rattle.certificate_theory.specs.Lines.{DealsWith, nothing_left, line_then, FailsToDeal, line_missing, line_surplus, line_wrong, line_later, AreRightBehind, right_then, FirstIsWrong, wrong_here, wrong_later}
 use Rattle.certificate_theory.specs.Covers.{IsListedIn, IsRightCover}
@@ -159,33 +160,13 @@ data Compared (j k : ℕ) : Type 0 where
   is_same : j ≡ k → Compared j k
   is_more : k < j → Compared j k
 
-compared : (j k : ℕ) → Compared j k
-compared zero zero = is_same refl
-compared zero (suc k) = is_less (omega arith)
-compared (suc j) zero = is_more (omega arith)
-compared (suc j) (suc k) = go (compared j k)
-  where
-    go : Compared j k → Compared (suc j) (suc k)
-    go (is_less h) = is_less (omega (arith, h))
-    go (is_same h) = is_same (ap (λ (n : ℕ). suc n) h)
-    go (is_more h) = is_more (omega (arith, h))
-
--- two numbers of which neither is less are one
-pub one_least : (j k : ℕ) → (j < k → ⊥) → (k < j → ⊥) → j ≡ k
-one_least j k not_less not_more = go (compared j k)
-  where
-    go : Compared j k → j ≡ k
-    go (is_less h) = absurd (not_less h)
-    go (is_same h) = h
-    go (is_more h) = absurd (not_more h)
-
 lack_once : (signature : Signature) (covers : List Cover) (trees : List PatternTree) (i f j g : ℕ)
     → IsFirstLack signature covers trees i f → IsFirstLack signature covers trees j g → (i ≡ j) × (f ≡ g)
 lack_once signature covers trees i f j g one other = (same, same_operation)
   where
     same : i ≡ j
     same =
-        one_least i j (λ less. other.first_cover i f one.cover less one.is_cover one.lacks)
+        neither_less i j (λ less. other.first_cover i f one.cover less one.is_cover one.lacks)
         (λ less. one.first_cover j g other.cover less other.is_cover other.lacks)
 
     cover : one.cover ≡ other.cover
@@ -193,7 +174,7 @@ lack_once signature covers trees i f j g one other = (same, same_operation)
 
     same_operation : f ≡ g
     same_operation =
-        one_least f g
+        neither_less f g
         (λ less. other.first_operation f less (subst (λ (c : Cover). LacksTree signature trees c f) cover one.lacks))
         (λ less. one.first_operation g less (subst (λ (c : Cover). LacksTree signature trees c g) (sym cover) other.lacks))
 

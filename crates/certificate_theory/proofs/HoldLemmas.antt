@@ -5,7 +5,7 @@ use Rattle.lotos_base.specs.Sorting.{HasSort, IsGroundOf}
 use Rattle.lotos_base.specs.Substitution.{Substitution, substituted, IsGrounding}
 use Rattle.lotos_base.specs.Equality.{Equal}
 use Rattle.lotos_base.proofs.EqualityLemmas.{equal_then, equal_back}
-use Rattle.lotos_base.proofs.ExampleHelpers.{Each}
+use Rattle.lotos_base.proofs.Each.{Each}
 use Rattle.certificate_theory.specs.InductionCertificate.{Statement}
 use Rattle.certificate_theory.specs.Splits.{Theory, Case, IsInScope, in_both}
 use Rattle.certificate_theory.specs.Certified.{IsFit}

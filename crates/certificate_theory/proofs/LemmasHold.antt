@@ -8,7 +8,7 @@ use Rattle.lotos_base.specs.Tests.{occurs}
 use Rattle.lotos_base.specs.Substitution.{substituted, is_listed}
 use Rattle.lotos_base.proofs.TestLemmas.{Decides-occurs}
 use Rattle.lotos_base.proofs.EqualityLemmas.{equal_same}
-use Rattle.lotos_base.proofs.ExampleHelpers.{Each, each_member}
+use Rattle.lotos_base.proofs.Each.{Each, each_member, each_join}
 use Rattle.certificate_theory.specs.InductionCertificate.{Cover, Statement, ProofLine, split_variable, use_it, same_sides, Lemma, Certificate}
 use Rattle.certificate_theory.specs.Lines.{AreRightBehind, no_more, right_then}
 use Rattle.certificate_theory.specs.Covers.{IsListedIn, IsCoveredBy, cover_of}
@@ -16,7 +16,7 @@ use Rattle.certificate_theory.specs.Splits.{Theory, Case, Proving, IsInScope, ab
 use Rattle.certificate_theory.specs.Proofs.{CaseComesTo}
 use Rattle.certificate_theory.specs.Certified.{IsFit, IsStated, IsCertificateOver, IsCertified, statements_of, proving_of, IsRightLemma}
 use Rattle.certificate_theory.specs.Requirements.{HoldsByInduction, OccursInSide}
-use Rattle.certificate_theory.proofs.Each.{each_of, each_join, each_map}
+use Rattle.certificate_theory.proofs.Each.{each_of, each_map}
 use Rattle.certificate_theory.proofs.LineLemmas.{deals_each}
 use Rattle.certificate_theory.proofs.CoverLemmas.{cover_is_found, sort_covered}
 use Rattle.certificate_theory.proofs.CaseLemmas.{IsFineCase, not_listed, still_not_listed, listed_or, unless_listed}

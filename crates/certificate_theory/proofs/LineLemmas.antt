@@ -1,8 +1,8 @@
 -- Lines that deal with things, and things that are right one after another: what holds of all of them, and lines behind lines.
-use Rattle.std.proofs.Common.{◌≡◌, ℕ, zero, suc, ◌+◌, List, [], ◌∷◌, ◌++◌, length, subst, arith}
+use Rattle.std.proofs.Common.{◌≡◌, ℕ, zero, suc, ◌+◌, List, ◌∷◌, ◌++◌, length, subst, arith}
 use Rattle.std.specs.Prelude.{Some, slice_get}
 use Rattle.std.proofs.lemmas.Option.{same_Some}
-use Rattle.lotos_base.proofs.ExampleHelpers.{Each}
+use Rattle.lotos_base.proofs.Each.{Each}
 use Rattle.certificate_theory.specs.Lines.{DealsWith, nothing_left, line_then, LinesReach, no_line, line_first, FailsToDeal, line_later, AreRightBehind, no_more, right_then}
 use Rattle.certificate_theory.proofs.Each.{each_front, each_back}
 
@@ -46,8 +46,3 @@ reach_then_fail {ComesTo = ComesTo} {IsWrong = IsWrong} {misplaced = misplaced} 
   where
     same : suc (length lines + k) ≡ suc (length lines) + k
     same = omega arith
-
-pub reach_more : {X L : Type 0} {ComesTo : X → L → List X → Type 0} {xs behind parts : List X} {read : List L} (x : X) (line : L)
-    → LinesReach ComesTo xs read (x ∷ behind) → ComesTo x line parts → LinesReach ComesTo xs (read ++ line ∷ []) (parts ++ behind)
-reach_more x line no_line comes = line_first comes no_line
-reach_more x line (line_first also later) comes = line_first also (reach_more x line later comes)

@@ -8,7 +8,7 @@ use Rattle.behaviour_semantics.specs.Transition.{Transition}
 use Rattle.behaviour_semantics.specs.Solving.{Entry}
 use Rattle.behaviour_semantics.specs.Menu.{IsEntry}
 use Rattle.behaviour_semantics.specs.WellFormed.{AreOver}
-use Rattle.certificate_theory.specs.Certificate.{side_of}
+use Rattle.certificate_theory.specs.Certificate.{compared_side_of}
 use Rattle.certificate_theory.specs.SameSorts.{AreAlikeInSorts}
 use Rattle.certificate_theory.specs.Bisimulation.{AnsweringMove, AreAlikeAPair}
 use Rattle.certificate_theory.specs.NamedStates.{IsClosedEntry, HasClosedMenu}
@@ -19,9 +19,10 @@ use Rattle.certificate_theory.proofs.ClosedEntries.{EntryFor, entry_for, entry_e
 
 module _ (laws : MoveLaws) (data_ : Data) (canon : Term → Term) (one other : Specification)
     (Listed : Behaviour → Behaviour → Type 0) where
-  pub answered : (b c : Behaviour) → AreOver data_ canon one b → AreOver data_ canon other c → HasClosedMenu (side_of data_ canon one) b
-      → HasClosedMenu (side_of data_ canon other) c
-      → AreMatched (side_of data_ canon one) (side_of data_ canon other) Listed b c → (label : Label) (target : Behaviour)
+  pub answered : (b c : Behaviour) → AreOver data_ canon one b → AreOver data_ canon other c
+      → HasClosedMenu (compared_side_of data_ canon one) b
+      → HasClosedMenu (compared_side_of data_ canon other) c
+      → AreMatched (compared_side_of data_ canon one) (compared_side_of data_ canon other) Listed b c → (label : Label) (target : Behaviour)
       → Transition data_ one.processes b label target → AnsweringMove data_ one other (AreAlikeAPair data_ Listed) label target c
   answered b c over other_over closed other_closed m label target moves =
       let same_menu : closed.menu ≡ m.menu = laws.one_menu data_ canon one.processes b closed.menu m.menu closed.exact m.exact in
@@ -33,7 +34,7 @@ module _ (laws : MoveLaws) (data_ : Data) (canon : Term → Term) (one other : S
       subst (λ (menu : List Entry). (entry : Entry) → IsEntry menu entry → IsClosedEntry entry) same_other other_closed.closed in
       let e : EntryFor laws data_ canon one b over m.menu m.exact label target =
       entry_for laws data_ canon one b over m.menu m.exact all_closed label target moves in
-      let w : IsMatched (side_of data_ canon one) (side_of data_ canon other) Listed b c m.other_menu e.entry =
+      let w : IsMatched (compared_side_of data_ canon one) (compared_side_of data_ canon other) Listed b c m.other_menu e.entry =
       m.matched e.entry e.listed in
       let same : e.reached ≡ w.target = leads_once laws.determined data_ canon one b e.entry e.reached w.target e.leads w.leads in
       let a = entry_event laws data_ canon other c other_over m.other_menu m.other_exact w.answer w.other_target w.there

@@ -10,7 +10,7 @@ use Rattle.behaviour_semantics.specs.TransitionLaws.{MovesAreDetermined}
 use Rattle.behaviour_semantics.specs.OrderLaws.{AtMostOneMenuIsExact}
 use Rattle.behaviour_semantics.proofs.OptionLemmas.{some_value}
 use Rattle.certificate_theory.specs.Bisimulation.{turned_round}
-use Rattle.certificate_theory.specs.Certificate.{CertificateLine, names_left, names_right, lists_pair, unmatched_left, unmatched_right, CertificateFault, CertificateOutcome, accepted, refused, Comparison, ListedPair, Reading, first_reading, with_left, with_right, with_pair, AreListed, side_of}
+use Rattle.certificate_theory.specs.Certificate.{CertificateLine, names_left, names_right, lists_pair, unmatched_left, unmatched_right, CertificateFault, CertificateOutcome, accepted, refused, Comparison, ListedPair, Reading, first_reading, with_left, with_right, with_pair, AreListed, compared_side_of}
 use Rattle.certificate_theory.specs.NamedStates.{numbered_entry, IsClosedEntry, EntryLeads, NamesState, NamesNoState, state_is_missing, entry_is_missing, entry_is_open, HasClosedMenu, HasOpenMenu, ListsStates, ListsNoStates, left_is_missing, right_is_missing, left_is_open, right_is_open, LineIsRead, LineFails, LinesAreRead, all_read, one_read, LinesFail, fails_here, fails_later}
 use Rattle.certificate_theory.specs.MatchedPairs.{IsMatched, AreMatched, IsFirstUnmatched, PairIsMatched, PairFails, left_fails, right_fails, AllPairsAreMatched, PairsFail}
 use Rattle.certificate_theory.specs.Checking.{CertificateComesTo, is_accepted, has_faulty_line, lacks_starts, has_faulty_pair}
@@ -47,16 +47,16 @@ module _ (determined : MovesAreDetermined) (one_menu : AtMostOneMenuIsExact) whe
         (subst (λ (z : Behaviour). Exact data_ canon specification.processes z menu) same exact) exact'
 
     names_once : (states : List Behaviour) (from number : ℕ) (target another : Behaviour)
-        → NamesState (side_of data_ canon specification) states from number target
-        → NamesState (side_of data_ canon specification) states from number another → target ≡ another
+        → NamesState (compared_side_of data_ canon specification) states from number target
+        → NamesState (compared_side_of data_ canon specification) states from number another → target ≡ another
     names_once states from number target another p q =
         let state : p.state ≡ q.state = same_at states from p.state q.state p.named q.named in
         let menu : p.menu ≡ q.menu = same_menu p.state q.state p.menu q.menu state p.exact q.exact in
         let entry : p.entry ≡ q.entry =
         some_value (sym p.there ∙ ap (λ (m : List Entry). numbered_entry m number) menu ∙ q.there) in
         leads_once determined data_ canon specification q.state q.entry target another
-        (subst (λ (z : Behaviour). EntryLeads (side_of data_ canon specification) z q.entry target) state
-        (subst (λ (e : Entry). EntryLeads (side_of data_ canon specification) p.state e target) entry p.leads)) q.leads
+        (subst (λ (z : Behaviour). EntryLeads (compared_side_of data_ canon specification) z q.entry target) state
+        (subst (λ (e : Entry). EntryLeads (compared_side_of data_ canon specification) p.state e target) entry p.leads)) q.leads
 
     -- an entry that is there once, and either closed or open
     entry_at_once : (states : List Behaviour) (from number : ℕ) (b c : Behaviour) (menu other : List Entry) (entry : Entry)
@@ -68,8 +68,8 @@ module _ (determined : MovesAreDetermined) (one_menu : AtMostOneMenuIsExact) whe
         (same_menu b c menu other (same_at states from b c at at') exact exact') there
 
     no_state_once : (states : List Behaviour) (from number line : ℕ) (fault other : CertificateFault)
-        → NamesNoState (side_of data_ canon specification) states from number line fault
-        → NamesNoState (side_of data_ canon specification) states from number line other → fault ≡ other
+        → NamesNoState (compared_side_of data_ canon specification) states from number line fault
+        → NamesNoState (compared_side_of data_ canon specification) states from number line other → fault ≡ other
     no_state_once states from number line _ _ (state_is_missing p) (state_is_missing q) = refl
     no_state_once states from number line _ _ (entry_is_missing b m at exact p) (entry_is_missing c m' at' exact' q) = refl
     no_state_once states from number line _ _ (entry_is_open b m e at exact p n) (entry_is_open c m' e' at' exact' q n') = refl
@@ -87,8 +87,8 @@ module _ (determined : MovesAreDetermined) (one_menu : AtMostOneMenuIsExact) whe
         absurd (none_and_some (numbered_entry m' number) e q (entry_at_once states from number b c m m' e at at' exact exact' p))
 
     named_or_not : (states : List Behaviour) (from number line : ℕ) (target : Behaviour) (fault : CertificateFault)
-        → NamesState (side_of data_ canon specification) states from number target
-        → NamesNoState (side_of data_ canon specification) states from number line fault → ⊥
+        → NamesState (compared_side_of data_ canon specification) states from number target
+        → NamesNoState (compared_side_of data_ canon specification) states from number line fault → ⊥
     named_or_not states from number line target _ p (state_is_missing q) =
         none_and_some (slice_get states from) p.state q p.named
     named_or_not states from number line target _ p (entry_is_missing c m at exact q) =
@@ -99,8 +99,8 @@ module _ (determined : MovesAreDetermined) (one_menu : AtMostOneMenuIsExact) whe
         some_value (sym (entry_at_once states from number p.state c p.menu m p.entry p.named at p.exact exact p.there) ∙ q) in
         is_open (subst IsClosedEntry same p.closed)
 
-    closed_or_open : (b c : Behaviour) → b ≡ c → HasClosedMenu (side_of data_ canon specification) b
-        → HasOpenMenu (side_of data_ canon specification) c → ⊥
+    closed_or_open : (b c : Behaviour) → b ≡ c → HasClosedMenu (compared_side_of data_ canon specification) b
+        → HasOpenMenu (compared_side_of data_ canon specification) c → ⊥
     closed_or_open b c same p q =
         let menu : p.menu ≡ q.menu = same_menu b c p.menu q.menu same p.exact q.exact in
         q.open_entry (p.closed q.entry (subst (λ (m : List Entry). IsEntry m q.entry) (sym menu) q.there))
@@ -198,14 +198,15 @@ module _ (determined : MovesAreDetermined) (one_menu : AtMostOneMenuIsExact) whe
   module _ (data_ : Data) (canon : Term → Term) (one other : Specification) (Listed : Behaviour → Behaviour → Type 0)
       (b c : Behaviour) where
     matched_in : (menu more : List Entry) (entry : Entry) → Exact data_ canon other.processes c menu
-        → Exact data_ canon other.processes c more → IsMatched (side_of data_ canon one) (side_of data_ canon other) Listed b c menu entry
-        → IsMatched (side_of data_ canon one) (side_of data_ canon other) Listed b c more entry
+        → Exact data_ canon other.processes c more
+        → IsMatched (compared_side_of data_ canon one) (compared_side_of data_ canon other) Listed b c menu entry
+        → IsMatched (compared_side_of data_ canon one) (compared_side_of data_ canon other) Listed b c more entry
     matched_in menu more entry exact exact' matched =
-        subst (λ (m : List Entry). IsMatched (side_of data_ canon one) (side_of data_ canon other) Listed b c m entry)
+        subst (λ (m : List Entry). IsMatched (compared_side_of data_ canon one) (compared_side_of data_ canon other) Listed b c m entry)
         (one_menu data_ canon other.processes c menu more exact exact') matched
 
-    matched_or_not : (number : ℕ) → AreMatched (side_of data_ canon one) (side_of data_ canon other) Listed b c
-        → IsFirstUnmatched (side_of data_ canon one) (side_of data_ canon other) Listed b c number → ⊥
+    matched_or_not : (number : ℕ) → AreMatched (compared_side_of data_ canon one) (compared_side_of data_ canon other) Listed b c
+        → IsFirstUnmatched (compared_side_of data_ canon one) (compared_side_of data_ canon other) Listed b c number → ⊥
     matched_or_not number p q =
         let menu : p.menu ≡ q.menu = one_menu data_ canon one.processes b p.menu q.menu p.exact q.exact in
         let listed : IsEntry p.menu q.entry =
@@ -214,16 +215,17 @@ module _ (determined : MovesAreDetermined) (one_menu : AtMostOneMenuIsExact) whe
 
     -- none is unmatched before the first
     not_before : (number another : ℕ) → number < another
-        → IsFirstUnmatched (side_of data_ canon one) (side_of data_ canon other) Listed b c number
-        → IsFirstUnmatched (side_of data_ canon one) (side_of data_ canon other) Listed b c another → ⊥
+        → IsFirstUnmatched (compared_side_of data_ canon one) (compared_side_of data_ canon other) Listed b c number
+        → IsFirstUnmatched (compared_side_of data_ canon one) (compared_side_of data_ canon other) Listed b c another → ⊥
     not_before number another less p q =
         let menu : p.menu ≡ q.menu = one_menu data_ canon one.processes b p.menu q.menu p.exact q.exact in
         let there : numbered_entry q.menu number ≡ Some p.entry =
         subst (λ (m : List Entry). numbered_entry m number ≡ Some p.entry) menu p.there in
         p.unmatched (matched_in q.other_menu p.other_menu p.entry q.other_exact p.other_exact (q.earlier number p.entry less there))
 
-    first_once : (number another : ℕ) → IsFirstUnmatched (side_of data_ canon one) (side_of data_ canon other) Listed b c number
-        → IsFirstUnmatched (side_of data_ canon one) (side_of data_ canon other) Listed b c another → number ≡ another
+    first_once : (number another : ℕ) → IsFirstUnmatched (compared_side_of data_ canon one) (compared_side_of data_ canon other)
+        Listed b c number
+        → IsFirstUnmatched (compared_side_of data_ canon one) (compared_side_of data_ canon other) Listed b c another → number ≡ another
     first_once number another p q = by (which_first number another)
       where
         by : (number ≡ another) ⊎ ((number < another) ⊎ (another < number)) → number ≡ another

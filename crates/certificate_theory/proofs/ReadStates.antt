@@ -8,7 +8,7 @@ use Rattle.behaviour_semantics.specs.Menu.{derivation_at}
 use Rattle.behaviour_semantics.specs.WellFormed.{AreOver}
 use Rattle.behaviour_semantics.proofs.OptionLemmas.{some_value}
 use Rattle.certificate_theory.specs.BisimulationLaws.{IsComparable}
-use Rattle.certificate_theory.specs.Certificate.{CertificateLine, names_left, names_right, lists_pair, Comparison, ListedPair, Reading, first_reading, AreListed, number_of_pairs, side_of, left_of, right_of}
+use Rattle.certificate_theory.specs.Certificate.{CertificateLine, names_left, names_right, lists_pair, Comparison, ListedPair, Reading, first_reading, AreListed, number_of_pairs, compared_side_of, left_side_of, right_side_of}
 use Rattle.certificate_theory.specs.NamedStates.{NamesState, HasClosedMenu, ListsStates, LineIsRead, LinesAreRead, all_read, one_read}
 use Rattle.certificate_theory.proofs.MoveLaws.{MoveLaws}
 use Rattle.certificate_theory.proofs.AlikeChains.{over_at}
@@ -17,8 +17,8 @@ use Rattle.certificate_theory.proofs.AlikeChains.{over_at}
 pub record IsSurveyedPair (c : Comparison) (pair : ListedPair) : Type 0 where
   pub left : AreOver c.data_ c.canon c.left pair.left
   pub right : AreOver c.data_ c.canon c.right pair.right
-  pub left_menu : HasClosedMenu (left_of c) pair.left
-  pub right_menu : HasClosedMenu (right_of c) pair.right
+  pub left_menu : HasClosedMenu (left_side_of c) pair.left
+  pub right_menu : HasClosedMenu (right_side_of c) pair.right
 
 pub record IsSurveyed (c : Comparison) (r : Reading) : Type 0 where
   pub lefts : (i : ℕ) (b : Behaviour) → slice_get r.lefts i ≡ Some b → AreOver c.data_ c.canon c.left b
@@ -40,7 +40,7 @@ one_more {X = X} P xs last all of_last i x at = by (before_or_last xs last i x a
 named_over : MoveLaws → (data_ : Data) (canon : Term → Term) (specification : Specification) (states : List Behaviour)
     (from number : ℕ) (target : Behaviour)
     → ((i : ℕ) (b : Behaviour) → slice_get states i ≡ Some b → AreOver data_ canon specification b)
-    → NamesState (side_of data_ canon specification) states from number target → AreOver data_ canon specification target
+    → NamesState (compared_side_of data_ canon specification) states from number target → AreOver data_ canon specification target
 named_over laws data_ canon specification states from number target all names =
     let over : AreOver data_ canon specification names.state = all from names.state names.named in
     over_at data_ canon specification names.state target over

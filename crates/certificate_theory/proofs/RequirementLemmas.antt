@@ -12,7 +12,7 @@ use Rattle.certificate_theory.specs.Splits.{Theory}
 use Rattle.certificate_theory.specs.Certified.{IsFit, IsCertificateOver, IsCertified}
 use Rattle.certificate_theory.specs.Requirements.{HoldsByInduction, IsRenamedStatement, stated, IsMetBy, IsLeftOpen}
 use Rattle.certificate_theory.proofs.LemmasHold.{lemmas_hold}
-use Rattle.certificate_theory.proofs.FaultLemmas.{one_least}
+use Rattle.rewriting_theory.proofs.PairListLemmas.{neither_less}
 
 -- what holds by induction holds up to the names of variables
 module _ (data_ : Data) (one other : Statement) (is : IsRenamedStatement one other) where
@@ -50,7 +50,7 @@ met_holds theory certificate equation k values fit over certified met instance =
 pub met_once : (certificate : Certificate) (equation : Equation) (j k : ℕ) → IsMetBy certificate.lemmas equation j
     → IsMetBy certificate.lemmas equation k → j ≡ k
 met_once certificate equation j k one other =
-    one_least j k (λ less. other.first j one.lemma less one.is_lemma one.renamed)
+    neither_less j k (λ less. other.first j one.lemma less one.is_lemma one.renamed)
     (λ less. one.first k other.lemma less other.is_lemma other.renamed)
 
 pub met_not_open : (certificate : Certificate) (equation : Equation) (k : ℕ) → IsMetBy certificate.lemmas equation k

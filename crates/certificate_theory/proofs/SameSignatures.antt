@@ -4,12 +4,13 @@ use Rattle.std.specs.Prelude.{option_map}
 use Rattle.lotos_base.specs.Names.{AreOneName}
 use Rattle.lotos_base.specs.Signature.{Sort, Operation, Signature, IsSort, IsWellFormedSignature}
 use Rattle.lotos_base.specs.Term.{Term, variable, node, Terms, no_terms, term_then}
-use Rattle.lotos_base.specs.Sorting.{HasSort, HaveSorts, IsTermOf, IsGroundOf, sort_of}
+use Rattle.lotos_base.specs.Sorting.{HasSort, HaveSorts, IsTermOf, IsGroundOf, head_sort_of}
 use Rattle.lotos_base.specs.Equation.{Variable}
 use Rattle.behaviour_semantics.specs.Behaviour.{Behaviour, stop, exit_with, action, inner_action, guard, choice, parallel, hide, enable, disable, let_be, choose_value, choose_gate, par_gate, call, relabel, Test, Offer, give, ask, ExitValue, exit_value, any_of, Process, Specification}
-use Rattle.behaviour_semantics.specs.Rule.{is_same_sort, have_sorts, have_same_sorts, AreValues}
-use Rattle.behaviour_semantics.specs.WellFormed.{Every, IsTermIn, IsTestIn, AreTermsIn, AreBinders, IsTestOption, IsOffer, IsExitValue, IsCall, IsBehaviour, IsFunctionality, IsDefinition, IsSpecification}
+use Rattle.behaviour_semantics.specs.Rule.{is_same_known_sort, have_sorts, have_same_sorts, AreValues}
+use Rattle.behaviour_semantics.specs.WellFormed.{IsTermIn, IsTestIn, AreTermsIn, AreBinders, IsTestOption, IsOffer, IsExitValue, IsCall, IsBehaviour, IsFunctionality, IsDefinition, IsSpecification}
 use Rattle.behaviour_semantics.proofs.OptionLemmas.{some_value}
+use Rattle.behaviour_semantics.proofs.EveryLemmas.{every_map}
 use Rattle.certificate_theory.specs.SameData.{AreSameSorts, AreOneOperation, AreSameOperations}
 
 -- ---- Places in the lists.
@@ -26,13 +27,13 @@ as_many_sorts (s ∷ sorts) (r ∷ others) same = ap suc (as_many_sorts sorts ot
 as_many_sorts [] (r ∷ others) same = absurd same
 as_many_sorts (s ∷ sorts) [] same = absurd same
 
-sort_at : (sorts others : List Sort) → AreSameSorts sorts others → (i : ℕ) (s : Sort) → slice_get sorts i ≡ Some s
+pub sort_there : (sorts others : List Sort) → AreSameSorts sorts others → (i : ℕ) (s : Sort) → slice_get sorts i ≡ Some s
     → (r : Sort) × (slice_get others i ≡ Some r) × AreOneName s.name r.name
-sort_at [] [] same i s at = absurd (cc at)
-sort_at (q ∷ sorts) (r ∷ others) same zero s at = (r, refl, subst (λ (z : Sort). AreOneName z.name r.name) (some_value at) same.0)
-sort_at (q ∷ sorts) (r ∷ others) same (suc i) s at = sort_at sorts others same.1 i s at
-sort_at [] (r ∷ others) same i s at = absurd same
-sort_at (q ∷ sorts) [] same i s at = absurd same
+sort_there [] [] same i s at = absurd (cc at)
+sort_there (q ∷ sorts) (r ∷ others) same zero s at = (r, refl, subst (λ (z : Sort). AreOneName z.name r.name) (some_value at) same.0)
+sort_there (q ∷ sorts) (r ∷ others) same (suc i) s at = sort_there sorts others same.1 i s at
+sort_there [] (r ∷ others) same i s at = absurd same
+sort_there (q ∷ sorts) [] same i s at = absurd same
 
 operation_back : (one other : Operation) → AreOneOperation one other → AreOneOperation other one
 operation_back one other same =
@@ -44,14 +45,14 @@ operations_back (o ∷ operations) (p ∷ others) same = (operation_back o p sam
 operations_back [] (p ∷ others) same = absurd same
 operations_back (o ∷ operations) [] same = absurd same
 
-operation_at : (operations others : List Operation) → AreSameOperations operations others → (f : ℕ) (o : Operation)
+pub operation_there : (operations others : List Operation) → AreSameOperations operations others → (f : ℕ) (o : Operation)
     → slice_get operations f ≡ Some o → (p : Operation) × (slice_get others f ≡ Some p) × AreOneOperation o p
-operation_at [] [] same f o at = absurd (cc at)
-operation_at (q ∷ operations) (p ∷ others) same zero o at =
+operation_there [] [] same f o at = absurd (cc at)
+operation_there (q ∷ operations) (p ∷ others) same zero o at =
     (p, refl, subst (λ (z : Operation). AreOneOperation z p) (some_value at) same.0)
-operation_at (q ∷ operations) (p ∷ others) same (suc f) o at = operation_at operations others same.1 f o at
-operation_at [] (p ∷ others) same f o at = absurd same
-operation_at (q ∷ operations) [] same f o at = absurd same
+operation_there (q ∷ operations) (p ∷ others) same (suc f) o at = operation_there operations others same.1 f o at
+operation_there [] (p ∷ others) same f o at = absurd same
+operation_there (q ∷ operations) [] same f o at = absurd same
 
 -- The result at a number, where there is one.
 result_at : (operations others : List Operation) → AreSameOperations operations others → (f : ℕ)
@@ -73,10 +74,6 @@ agree_turned signature other same = record {
   operations = operations_back signature.operations other.operations same.operations;
 }
 
-every_other : {X : Type 0} (P Q : X → Type 0) → ((x : X) → P x → Q x) → (xs : List X) → Every P xs → Every Q xs
-every_other P Q each [] all = tt
-every_other P Q each (x ∷ xs) all = (each x all.0, every_other P Q each xs all.1)
-
 -- ---- Terms.
 
 module _ (signature other : Signature) (same : AgreeSignatures signature other) where
@@ -87,7 +84,7 @@ module _ (signature other : Signature) (same : AgreeSignatures signature other) 
     pub has_sort : (t : Term) (s : ℕ) → HasSort signature t s → HasSort other t s
     has_sort (variable n q) s h = (h.0, is_sort q h.1)
     has_sort (node f ts) s h =
-        let at = operation_at signature.operations other.operations same.operations f h.0 h.1 in (
+        let at = operation_there signature.operations other.operations same.operations f h.0 h.1 in (
           at.0,
           at.1,
           sym at.2.result ∙ h.2,
@@ -112,26 +109,26 @@ module _ (signature other : Signature) (same : AgreeSignatures signature other) 
   are_values [] (t ∷ ts) h = absurd h
   are_values (s ∷ ss) [] h = absurd h
 
-  head_sort : (t : Term) → sort_of signature t ≡ sort_of other t
+  head_sort : (t : Term) → head_sort_of signature t ≡ head_sort_of other t
   head_sort (variable n s) = refl
   head_sort (node f ts) = result_at signature.operations other.operations same.operations f
 
   pub sorts_asked : (ts : List Term) (ss : List ℕ) → have_sorts signature ts ss ≡ have_sorts other ts ss
   sorts_asked [] [] = refl
   sorts_asked (t ∷ ts) (s ∷ ss) =
-      let head : sort_of signature t ≡ sort_of other t = head_sort t in
+      let head : head_sort_of signature t ≡ head_sort_of other t = head_sort t in
       let rest : have_sorts signature ts ss ≡ have_sorts other ts ss = sorts_asked ts ss in
-      (λ i. is_same_sort (head i) (Some s) && rest i)
+      (λ i. is_same_known_sort (head i) (Some s) && rest i)
   sorts_asked [] (s ∷ ss) = refl
   sorts_asked (t ∷ ts) [] = refl
 
   pub same_sorts_asked : (ts us : List Term) → have_same_sorts signature ts us ≡ have_same_sorts other ts us
   same_sorts_asked [] [] = refl
   same_sorts_asked (t ∷ ts) (u ∷ us) =
-      let head : sort_of signature t ≡ sort_of other t = head_sort t in
-      let other_head : sort_of signature u ≡ sort_of other u = head_sort u in
+      let head : head_sort_of signature t ≡ head_sort_of other t = head_sort t in
+      let other_head : head_sort_of signature u ≡ head_sort_of other u = head_sort u in
       let rest : have_same_sorts signature ts us ≡ have_same_sorts other ts us = same_sorts_asked ts us in
-      (λ i. is_same_sort (head i) (other_head i) && rest i)
+      (λ i. is_same_known_sort (head i) (other_head i) && rest i)
   same_sorts_asked [] (u ∷ us) = refl
   same_sorts_asked (t ∷ ts) [] = refl
 
@@ -157,7 +154,7 @@ module _ (signature other : Signature) (same : AgreeSignatures signature other) 
   are_binders : (variables : List Variable) → AreBinders signature variables → AreBinders other variables
   are_binders variables h = (
     h.0,
-    every_other (λ (x : Variable). IsSort signature x.sort) (λ (x : Variable). IsSort other x.sort)
+    every_map (λ (x : Variable). IsSort signature x.sort) (λ (x : Variable). IsSort other x.sort)
         (λ x is. is_sort x.sort is) variables h.1,
   )
 
@@ -187,10 +184,10 @@ module _ (signature other : Signature) (same : AgreeSignatures signature other) 
         → IsBehaviour other names processes scope b
     is_behaviour scope stop h = tt
     is_behaviour scope (exit_with results) h =
-        every_other (IsExitValue signature scope) (IsExitValue other scope) (is_exit_value scope) results h
+        every_map (IsExitValue signature scope) (IsExitValue other scope) (is_exit_value scope) results h
     is_behaviour scope (action g offers test b) h = (
       h.0,
-      every_other (IsOffer signature scope) (IsOffer other scope) (is_offer scope) offers h.1,
+      every_map (IsOffer signature scope) (IsOffer other scope) (is_offer scope) offers h.1,
       are_binders _ h.2,
       is_option _ test h.3,
       is_behaviour _ b h.4,
@@ -212,7 +209,7 @@ module _ (signature other : Signature) (same : AgreeSignatures signature other) 
 
     is_functionality : (exit : Option (List ℕ)) → IsFunctionality signature exit → IsFunctionality other exit
     is_functionality None h = tt
-    is_functionality (Some sorts) h = every_other (IsSort signature) (IsSort other) is_sort sorts h
+    is_functionality (Some sorts) h = every_map (IsSort signature) (IsSort other) is_sort sorts h
 
     is_definition : (gates : List ℕ) (parameters : List Variable) (exit : Option (List ℕ)) (body : Behaviour)
         → IsDefinition signature names processes gates parameters exit body → IsDefinition other names processes gates parameters exit body
@@ -229,7 +226,7 @@ module _ (signature other : Signature) (same : AgreeSignatures signature other) 
       let names : ℕ = length s.gate_names in
       record {
         whole = is_definition names s.processes s.gates s.parameters s.exit s.body h.whole;
-        each = every_other (λ (p : Process). IsDefinition signature names s.processes p.gates p.parameters p.exit p.body)
+        each = every_map (λ (p : Process). IsDefinition signature names s.processes p.gates p.parameters p.exit p.body)
             (λ (p : Process). IsDefinition other names s.processes p.gates p.parameters p.exit p.body)
             (λ p d. is_definition names s.processes p.gates p.parameters p.exit p.body d) s.processes h.each;
       }
@@ -242,19 +239,19 @@ is_well_formed signature other same fine =
     let back : AgreeSignatures other signature = agree_turned signature other same in
     record {
       results = λ f p at.
-          let one = operation_at other.operations signature.operations back.operations f p at in
+          let one = operation_there other.operations signature.operations back.operations f p at in
           subst (IsSort other) (sym one.2.result) (is_sort signature other same one.0.result (fine.results f one.0 one.1));
       arguments = λ f i s p at at_i.
-          let one = operation_at other.operations signature.operations back.operations f p at in
+          let one = operation_there other.operations signature.operations back.operations f p at in
           is_sort signature other same s
           (fine.arguments f i s one.0 one.1 (subst (λ (ss : List ℕ). slice_get ss i ≡ Some s) one.2.arguments at_i));
       sort_names = λ i j s r at at_j named.
-          let one = sort_at other.sorts signature.sorts back.sorts i s at in
-          let two = sort_at other.sorts signature.sorts back.sorts j r at_j in
+          let one = sort_there other.sorts signature.sorts back.sorts i s at in
+          let two = sort_there other.sorts signature.sorts back.sorts j r at_j in
           fine.sort_names i j one.0 two.0 one.1 two.1 (sym one.2 ∙ named ∙ two.2);
       profiles = λ f g p q at at_g name form arguments result.
-          let one = operation_at other.operations signature.operations back.operations f p at in
-          let two = operation_at other.operations signature.operations back.operations g q at_g in
+          let one = operation_there other.operations signature.operations back.operations f p at in
+          let two = operation_there other.operations signature.operations back.operations g q at_g in
           fine.profiles f g one.0 two.0 one.1 two.1 (sym one.2.name ∙ name ∙ two.2.name) (sym one.2.form ∙ form ∙ two.2.form)
           (sym one.2.arguments ∙ arguments ∙ two.2.arguments) (sym one.2.result ∙ result ∙ two.2.result);
     }

@@ -6,8 +6,9 @@ use Rattle.lotos_base.specs.Signature.{Sort, Operation, IsSort, IsWellFormedSign
 use Rattle.lotos_base.specs.Term.{Term}
 use Rattle.lotos_base.specs.Equation.{Equation}
 use Rattle.lotos_base.specs.SmallData.{nought, successor}
-use Rattle.lotos_base.proofs.ExampleHelpers.{each_member, one_position, one_named}
+use Rattle.lotos_base.proofs.ExampleHelpers.{one_position, one_named}
 use Rattle.lotos_base.proofs.CanonLemmas.{identity_canon, equal_identical}
+use Rattle.lotos_base.proofs.Each.{each_member}
 use Rattle.rewriting_theory.specs.Rule.{Rule}
 use Rattle.rewriting_theory.specs.Reduction.{Chain, no_link, link_first}
 use Rattle.rewriting_theory.specs.Rewriting.{Rewrites}

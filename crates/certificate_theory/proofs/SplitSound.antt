@@ -13,7 +13,7 @@ use Rattle.lotos_base.proofs.TestLemmas.{Decides-occurs}
 use Rattle.lotos_base.proofs.SubstitutionLemmas.{substituted_twice, ground_instance, occurs_substituted}
 use Rattle.lotos_base.proofs.EqualityLemmas.{equal_then, equal_back, equal_same, equal_values}
 use Rattle.lotos_base.proofs.SortLemmas.{equal_ground, equal_sort}
-use Rattle.lotos_base.proofs.ExampleHelpers.{Each}
+use Rattle.lotos_base.proofs.Each.{Each}
 use Rattle.rewriting_theory.proofs.LinkSteps.{reaches_equal}
 use Rattle.rewriting_theory.proofs.ChosenLemmas.{chosen_reached}
 use Rattle.rewriting_theory.proofs.PublicLemmas.{chosen_form, chosen_normal}

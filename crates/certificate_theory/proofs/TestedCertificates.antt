@@ -7,7 +7,7 @@ use Rattle.std.proofs.lemmas.Option.{same_Some, slice_get_within}
 use Rattle.lotos_base.specs.Signature.{Signature, Operation, IsOperation}
 use Rattle.lotos_base.specs.Substitution.{is_listed}
 use Rattle.lotos_base.proofs.Options.{none_and_some}
-use Rattle.lotos_base.proofs.ExampleHelpers.{Each}
+use Rattle.lotos_base.proofs.Each.{Each}
 use Rattle.certificate_theory.specs.InductionCertificate.{Cover, PatternTree, Lemma, Certificate}
 use Rattle.certificate_theory.specs.Lines.{DealsWith, AreRightBehind, no_more, right_then, FirstIsWrong, wrong_here, wrong_later}
 use Rattle.certificate_theory.specs.Covers.{IsListedIn, cover_of, HasResult, IsRightCover}
@@ -363,7 +363,7 @@ lack_from_start signature covers trees i f first = record {
     same : first.index ≡ i
     same = let number = first.is_number in omega (arith, number)
 
-complete_of : (signature : Signature) (covers : List Cover) (trees : List PatternTree)
+pub complete_of : (signature : Signature) (covers : List Cover) (trees : List PatternTree)
     → ((j g : ℕ) (cover : Cover) → slice_get covers j ≡ Some cover → ¬ LacksTree signature trees cover g)
     → AreComplete signature covers trees
 complete_of signature covers trees none i f cover operation at is result =

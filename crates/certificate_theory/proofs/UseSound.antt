@@ -12,14 +12,15 @@ use Rattle.lotos_base.proofs.PathLemmas.{put_below, put_at-subterm}
 use Rattle.lotos_base.proofs.SubstitutionLemmas.{substituted_twice, substituted_sort, substituted_occurs, occurs_substituted, ground_instance, put_at-substituted}
 use Rattle.lotos_base.proofs.EqualityLemmas.{equal_then, equal_back, equal_same, equal_inside}
 use Rattle.lotos_base.proofs.SortLemmas.{one_sort, subterm_sort}
-use Rattle.lotos_base.proofs.ExampleHelpers.{Each, each_member}
+use Rattle.lotos_base.proofs.Each.{Each, each_member}
+use Rattle.rewriting_theory.proofs.OverlapLemmas.{subterm_occurs}
 use Rattle.certificate_theory.specs.InductionCertificate.{Statement, Side, left_side, right_side, Source, by_lemma, by_hypothesis, Use}
 use Rattle.certificate_theory.specs.Splits.{Theory, Case, Proving, IsInScope, in_both, with_goal}
 use Rattle.certificate_theory.specs.Uses.{taken_side, placed_side, side_at, with_side, IsOfSource, StandsForItself, IsUsed}
 use Rattle.certificate_theory.specs.Certified.{IsFit}
 use Rattle.certificate_theory.specs.Requirements.{HoldsByInduction, OccursInSide}
 use Rattle.certificate_theory.proofs.Each.{each_more}
-use Rattle.certificate_theory.proofs.ArgumentLemmas.{argument_occurs, part_occurs}
+use Rattle.certificate_theory.proofs.ArgumentLemmas.{argument_occurs}
 use Rattle.certificate_theory.proofs.CaseLemmas.{IsFineHypothesis, IsFineCase}
 use Rattle.certificate_theory.proofs.HoldLemmas.{GroundsScope, HoldsAt, HypothesisHolds, IsSoundCase, from_canon}
 
@@ -43,11 +44,6 @@ from_sides P backward statement taken placed = (placed, taken)
 pub by_side : (P : Term → Type 0) (side : Side) (statement : Statement) → P statement.left → P statement.right → P (side_at side statement)
 by_side P left_side statement left right = left
 by_side P right_side statement left right = right
-
-pub taken_occurs : (direction : Direction) (statement : Statement) (n s : ℕ) → Occurs n s (taken_side direction statement)
-    → OccursInSide statement n s
-taken_occurs forward statement n s o = inl o
-taken_occurs backward statement n s o = inr o
 
 pub placed_occurs : (direction : Direction) (statement : Statement) (n s : ℕ) → Occurs n s (placed_side direction statement)
     → OccursInSide statement n s
@@ -206,7 +202,7 @@ module _ {theory : Theory} {proving : Proving} {point : Case} {use_ : Use} {resu
       → (n s : ℕ) → Occurs n s (substituted used.values (taken_side use_.direction used.statement)) → IsInScope point n s
   taken_scoped used fine n s o =
       fine.scoped n s (side_occurs use_.side point.goal n s
-      (part_occurs use_.path (side_at use_.side point.goal) (substituted used.values (taken_side use_.direction used.statement))
+      (subterm_occurs use_.path (side_at use_.side point.goal) (substituted used.values (taken_side use_.direction used.statement))
       n s used.old o))
 
   -- and so is one of what is put there

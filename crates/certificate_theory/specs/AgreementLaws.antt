@@ -8,7 +8,7 @@ use Rattle.behaviour_semantics.specs.Solving.{Entry}
 use Rattle.behaviour_semantics.specs.Menu.{IsEntry, Exact}
 use Rattle.behaviour_semantics.specs.WellFormed.{AreOver}
 use Rattle.certificate_theory.specs.Agreement.{AgreeingLabels, IdenticalLabels}
-use Rattle.certificate_theory.specs.Certificate.{Comparison, ComparedSide, left_of, right_of}
+use Rattle.certificate_theory.specs.Certificate.{Comparison, ComparedSide, left_side_of, right_side_of}
 use Rattle.certificate_theory.specs.NamedStates.{IsClosedEntry, EntryLeads}
 
 -- labels that agree agree the other way round too
@@ -31,8 +31,8 @@ abbrev pub ClosedLabelsAgreeWhereIdentical : Type 0
 ClosedLabelsAgreeWhereIdentical =
     (c : Comparison) (b d : Behaviour) (entry answer : Entry) →
     HasSortedSides c.data_ →
-    IsClosedEntryOf (left_of c) b entry →
-    IsClosedEntryOf (right_of c) d answer →
+    IsClosedEntryOf (left_side_of c) b entry →
+    IsClosedEntryOf (right_side_of c) d answer →
     AgreeingLabels c.data_ c.left c.right entry.label answer.label ↔ IdenticalLabels c.left c.right entry.label answer.label
 
 -- An entry without variables is one event: it has no conditions, its leaves are canonical, and it leads to one behaviour.

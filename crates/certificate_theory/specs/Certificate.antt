@@ -47,14 +47,14 @@ pub record ComparedSide : Type 0 where
   pub canon : Term → Term
   pub specification : Specification
 
-abbrev pub side_of : Data → (Term → Term) → Specification → ComparedSide
-side_of data_ canon specification = record { data_ = data_; canon = canon; specification = specification }
+abbrev pub compared_side_of : Data → (Term → Term) → Specification → ComparedSide
+compared_side_of data_ canon specification = record { data_ = data_; canon = canon; specification = specification }
 
-abbrev pub left_of : Comparison → ComparedSide
-left_of c = side_of c.data_ c.canon c.left
+abbrev pub left_side_of : Comparison → ComparedSide
+left_side_of c = compared_side_of c.data_ c.canon c.left
 
-abbrev pub right_of : Comparison → ComparedSide
-right_of c = side_of c.data_ c.canon c.right
+abbrev pub right_side_of : Comparison → ComparedSide
+right_side_of c = compared_side_of c.data_ c.canon c.right
 
 -- A listed pair, with the number of its line.
 pub record ListedPair : Type 0 where

@@ -4,7 +4,7 @@ use Rattle.lotos_base.specs.Term.{Term, variable}
 use Rattle.lotos_base.specs.Sorting.{IsGroundOf}
 use Rattle.lotos_base.specs.Equation.{Equation}
 use Rattle.lotos_base.specs.Equality.{forward, Equal}
-use Rattle.lotos_base.specs.SmallData.{equation_of, natural_signature, natural_data, nought, successor, plus, x_natural, y_natural}
+use Rattle.lotos_base.specs.SmallData.{example_equation, natural_signature, natural_data, nought, successor, plus, x_natural, y_natural}
 use Rattle.termination_theory.specs.OrientationCases.{addition_rules}
 use Rattle.certificate_theory.specs.InductionCertificate.{Cover, PatternTree, split_pattern, leaf_here, Statement, Side, left_side, right_side, Source, by_lemma, by_hypothesis, ProofLine, split_variable, use_it, same_sides, Lemma, Certificate}
 use Rattle.certificate_theory.specs.Covers.{IsCoveredBy}
@@ -24,15 +24,15 @@ sum_tree = record { operation = 2; lines = split_pattern (0 ∷ []) ∷ leaf_her
 abbrev pub states : Term → Term → Statement
 states left right = record { left = left; right = right }
 
-abbrev pub use_of : Source → Side → List ℕ → ProofLine
-use_of source side path = use_it (record { source = source; side = side; path = path; direction = forward })
+abbrev pub use_proof_line : Source → Side → List ℕ → ProofLine
+use_proof_line source side path = use_it (record { source = source; side = side; path = path; direction = forward })
 
 -- x + 0 = x
 abbrev pub nought_right : Lemma
 nought_right = record {
   variables = 0 ∷ [];
   statement = states (plus x_natural nought) x_natural;
-  lines = split_variable 0 ∷ same_sides ∷ use_of (by_hypothesis 0) left_side (0 ∷ []) ∷ same_sides ∷ [];
+  lines = split_variable 0 ∷ same_sides ∷ use_proof_line (by_hypothesis 0) left_side (0 ∷ []) ∷ same_sides ∷ [];
 }
 
 -- x + Succ(y) = Succ(x + y)
@@ -40,7 +40,7 @@ abbrev pub successor_right : Lemma
 successor_right = record {
   variables = 0 ∷ 0 ∷ [];
   statement = states (plus x_natural (successor y_natural)) (successor (plus x_natural y_natural));
-  lines = split_variable 0 ∷ same_sides ∷ use_of (by_hypothesis 0) left_side (0 ∷ []) ∷ same_sides ∷ [];
+  lines = split_variable 0 ∷ same_sides ∷ use_proof_line (by_hypothesis 0) left_side (0 ∷ []) ∷ same_sides ∷ [];
 }
 
 -- x + y = y + x
@@ -49,10 +49,10 @@ commutes = record {
   variables = 0 ∷ 0 ∷ [];
   statement = states (plus x_natural y_natural) (plus y_natural x_natural);
   lines = split_variable 0
-      ∷ use_of (by_lemma 0) right_side []
+      ∷ use_proof_line (by_lemma 0) right_side []
       ∷ same_sides
-      ∷ use_of (by_hypothesis 0) left_side (0 ∷ [])
-      ∷ use_of (by_lemma 1) right_side []
+      ∷ use_proof_line (by_hypothesis 0) left_side (0 ∷ [])
+      ∷ use_proof_line (by_lemma 1) right_side []
       ∷ same_sides
       ∷ [];
 }
@@ -71,7 +71,7 @@ abbrev pub used_as_read : Lemma
 used_as_read = record {
   variables = 0 ∷ [];
   statement = states x_natural x_natural;
-  lines = use_of (by_lemma 0) left_side [] ∷ same_sides ∷ [];
+  lines = use_proof_line (by_lemma 0) left_side [] ∷ same_sides ∷ [];
 }
 
 -- x = x, where the split of x.1 makes the hypothesis x.1 = x.1 say Succ(x.1.1) = Succ(x.1.1)
@@ -83,17 +83,17 @@ split_twice = record {
       ∷ same_sides
       ∷ split_variable 1
       ∷ same_sides
-      ∷ use_of (by_hypothesis 0) left_side (0 ∷ [])
+      ∷ use_proof_line (by_hypothesis 0) left_side (0 ∷ [])
       ∷ same_sides
       ∷ [];
 }
 
 -- the requirement that + is commutative, with its own numbers of variables, and one that it is idempotent
 abbrev pub is_commutative : Equation
-is_commutative = equation_of [] (plus (variable 7 0) (variable 3 0)) (plus (variable 3 0) (variable 7 0))
+is_commutative = example_equation [] (plus (variable 7 0) (variable 3 0)) (plus (variable 3 0) (variable 7 0))
 
 abbrev pub is_idempotent : Equation
-is_idempotent = equation_of [] (plus x_natural x_natural) x_natural
+is_idempotent = example_equation [] (plus x_natural x_natural) x_natural
 
 pub record CommutativityCases : Type 0 where
   pub fit : IsFit addition

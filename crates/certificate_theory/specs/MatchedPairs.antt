@@ -6,7 +6,7 @@ use Rattle.behaviour_semantics.specs.Solving.{Entry}
 use Rattle.behaviour_semantics.specs.Menu.{IsEntry, Exact}
 use Rattle.certificate_theory.specs.Agreement.{AgreeingLabels}
 use Rattle.certificate_theory.specs.Bisimulation.{turned_round}
-use Rattle.certificate_theory.specs.Certificate.{CertificateFault, unmatched_left, unmatched_right, Comparison, ComparedSide, left_of, right_of, ListedPair, AreListed}
+use Rattle.certificate_theory.specs.Certificate.{CertificateFault, unmatched_left, unmatched_right, Comparison, ComparedSide, left_side_of, right_side_of, ListedPair, AreListed}
 use Rattle.certificate_theory.specs.NamedStates.{numbered_entry, EntryLeads}
 
 module _ (one other : ComparedSide) (Listed : Behaviour → Behaviour → Type 0) where
@@ -47,20 +47,20 @@ module _ (one other : ComparedSide) (Listed : Behaviour → Behaviour → Type 0
 
 -- Each entry of either state of the pair is matched by the other state.
 pub record PairIsMatched (c : Comparison) (pairs : List ListedPair) (pair : ListedPair) : Type 0 where
-  pub left : AreMatched (left_of c) (right_of c) (AreListed pairs) pair.left pair.right
-  pub right : AreMatched (right_of c) (left_of c) (turned_round (AreListed pairs)) pair.right pair.left
+  pub left : AreMatched (left_side_of c) (right_side_of c) (AreListed pairs) pair.left pair.right
+  pub right : AreMatched (right_side_of c) (left_side_of c) (turned_round (AreListed pairs)) pair.right pair.left
 
 -- The first entry of the pair that is not matched, left entries before right ones.
 pub data PairFails (c : Comparison) (pairs : List ListedPair) (pair : ListedPair) (fault : CertificateFault) : Type 0 where
   left_fails :
       (number : ℕ) →
-      IsFirstUnmatched (left_of c) (right_of c) (AreListed pairs) pair.left pair.right number →
+      IsFirstUnmatched (left_side_of c) (right_side_of c) (AreListed pairs) pair.left pair.right number →
       fault ≡ unmatched_left pair.line number →
       PairFails c pairs pair fault
   right_fails :
       (number : ℕ) →
-      AreMatched (left_of c) (right_of c) (AreListed pairs) pair.left pair.right →
-      IsFirstUnmatched (right_of c) (left_of c) (turned_round (AreListed pairs)) pair.right pair.left number →
+      AreMatched (left_side_of c) (right_side_of c) (AreListed pairs) pair.left pair.right →
+      IsFirstUnmatched (right_side_of c) (left_side_of c) (turned_round (AreListed pairs)) pair.right pair.left number →
       fault ≡ unmatched_right pair.line number →
       PairFails c pairs pair fault
 

@@ -5,7 +5,7 @@ use Rattle.behaviour_semantics.specs.Label.{Label}
 use Rattle.behaviour_semantics.specs.Derives.{DerivesCanonically}
 use Rattle.behaviour_semantics.specs.Solving.{Entry}
 use Rattle.behaviour_semantics.specs.Menu.{derivation_at, IsEntry, Exact}
-use Rattle.certificate_theory.specs.Certificate.{CertificateLine, names_left, names_right, lists_pair, CertificateFault, no_state, no_entry, open_menu, Comparison, ComparedSide, left_of, right_of, Reading, with_left, with_right, with_pair}
+use Rattle.certificate_theory.specs.Certificate.{CertificateLine, names_left, names_right, lists_pair, CertificateFault, no_state, no_entry, open_menu, Comparison, ComparedSide, left_side_of, right_side_of, Reading, with_left, with_right, with_pair}
 
 -- The entry with this number in a menu, counted from 1.
 abbrev pub numbered_entry : List Entry → ℕ → Option Entry
@@ -71,8 +71,8 @@ module _ (side : ComparedSide) where
 pub record ListsStates (c : Comparison) (r : Reading) (i j : ℕ) (left right : Behaviour) : Type 0 where
   pub left_named : slice_get r.lefts i ≡ Some left
   pub right_named : slice_get r.rights j ≡ Some right
-  pub left_closed : HasClosedMenu (left_of c) left
-  pub right_closed : HasClosedMenu (right_of c) right
+  pub left_closed : HasClosedMenu (left_side_of c) left
+  pub right_closed : HasClosedMenu (right_side_of c) right
 
 -- Why a pair cannot be listed: one of its states is not named; or both are, and the menu of one has an entry with a variable.
 pub data ListsNoStates (c : Comparison) (r : Reading) (i j line : ℕ) : CertificateFault → Type 0 where
@@ -82,29 +82,29 @@ pub data ListsNoStates (c : Comparison) (r : Reading) (i j line : ℕ) : Certifi
       (left right : Behaviour) →
       slice_get r.lefts i ≡ Some left →
       slice_get r.rights j ≡ Some right →
-      HasOpenMenu (left_of c) left →
+      HasOpenMenu (left_side_of c) left →
       ListsNoStates c r i j line (open_menu line)
   right_is_open :
       (left right : Behaviour) →
       slice_get r.lefts i ≡ Some left →
       slice_get r.rights j ≡ Some right →
-      HasOpenMenu (right_of c) right →
+      HasOpenMenu (right_side_of c) right →
       ListsNoStates c r i j line (open_menu line)
 
 -- What a line adds to the reading: a state on its side, or a pair.
 abbrev pub LineIsRead : Comparison → Reading → ℕ → CertificateLine → Reading → Type 0
 LineIsRead c r line (names_left from number) next =
-    (target : Behaviour) × NamesState (left_of c) r.lefts from number target × (next ≡ with_left r target)
+    (target : Behaviour) × NamesState (left_side_of c) r.lefts from number target × (next ≡ with_left r target)
 LineIsRead c r line (names_right from number) next =
-    (target : Behaviour) × NamesState (right_of c) r.rights from number target × (next ≡ with_right r target)
+    (target : Behaviour) × NamesState (right_side_of c) r.rights from number target × (next ≡ with_right r target)
 LineIsRead c r line (lists_pair i j) next =
     (left : Behaviour) × (right : Behaviour) × ListsStates c r i j left right
     × (next ≡ with_pair r (record { line = line; left = left; right = right }))
 
 -- The fault of a line.
 abbrev pub LineFails : Comparison → Reading → ℕ → CertificateLine → CertificateFault → Type 0
-LineFails c r line (names_left from number) fault = NamesNoState (left_of c) r.lefts from number line fault
-LineFails c r line (names_right from number) fault = NamesNoState (right_of c) r.rights from number line fault
+LineFails c r line (names_left from number) fault = NamesNoState (left_side_of c) r.lefts from number line fault
+LineFails c r line (names_right from number) fault = NamesNoState (right_side_of c) r.rights from number line fault
 LineFails c r line (lists_pair i j) fault = ListsNoStates c r i j line fault
 
 -- The lines from a reading on, of which the first has this number, are read one after another.

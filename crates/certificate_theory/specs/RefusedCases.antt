@@ -5,13 +5,13 @@ use Rattle.lotos_base.specs.Signature.{Signature, prefix_form}
 use Rattle.lotos_base.specs.Term.{Term, variable, node, no_terms}
 use Rattle.lotos_base.specs.Equation.{Data}
 use Rattle.lotos_base.specs.Equality.{Equal}
-use Rattle.lotos_base.specs.SmallData.{sort_named, operation_named, nought, successor, plus, x_natural, y_natural}
+use Rattle.lotos_base.specs.SmallData.{example_sort, example_operation, nought, successor, plus, x_natural, y_natural}
 use Rattle.certificate_theory.specs.InductionCertificate.{leaf_here, left_side, by_lemma, by_hypothesis, ProofLine, split_variable, same_sides, Lemma, Certificate}
 use Rattle.certificate_theory.specs.Faults.{bad_line, no_variable, no_cover, no_tree, not_reducible, bad_use, not_same}
 use Rattle.certificate_theory.specs.Splits.{Theory}
 use Rattle.certificate_theory.specs.Certified.{IsFit, IsCertificateOver, IsCertified, IsInductionFault}
 use Rattle.certificate_theory.specs.Addition.{addition}
-use Rattle.certificate_theory.specs.CommutativityCases.{number_cover, sum_tree, states, use_of, nought_right, successor_right, commutes, with_lemmas}
+use Rattle.certificate_theory.specs.CommutativityCases.{number_cover, sum_tree, states, use_proof_line, nought_right, successor_right, commutes, with_lemmas}
 
 -- the lemma x + 0 = x with another proof, and the lemma x = 0, which is false
 abbrev pub nought_right_by : List ProofLine → Lemma
@@ -43,7 +43,7 @@ argument = variable 1 0
 pub record RefusedCases : Type 0 where
   -- x = 0: the variable of the hypothesis, x.1 = 0, is fixed and does not match Succ(x.1)
   pub fixed_is_not_matched : IsInductionFault addition
-      (with_lemmas (all_nought_by (split_variable 0 ∷ same_sides ∷ use_of (by_hypothesis 0) left_side [] ∷ same_sides ∷ []) ∷ []))
+      (with_lemmas (all_nought_by (split_variable 0 ∷ same_sides ∷ use_proof_line (by_hypothesis 0) left_side [] ∷ same_sides ∷ []) ∷ []))
       11 bad_use
   -- x = 0: the hypothesis is the goal at the argument, not the goal
   pub goal_is_no_hypothesis : IsInductionFault addition
@@ -51,7 +51,7 @@ pub record RefusedCases : Type 0 where
       11 (not_same (states (successor argument) nought))
   -- a lemma is no earlier lemma of its own
   pub not_by_itself : IsInductionFault addition
-      (with_lemmas (all_nought_by (use_of (by_lemma 0) left_side [] ∷ same_sides ∷ []) ∷ []))
+      (with_lemmas (all_nought_by (use_proof_line (by_lemma 0) left_side [] ∷ same_sides ∷ []) ∷ []))
       9 bad_use
   -- nor is a later one: x + y = y + x needs the lemmas before it
   pub not_by_later : IsInductionFault addition (with_lemmas (nought_right ∷ commutes ∷ successor_right ∷ [])) 20 bad_use
@@ -62,12 +62,12 @@ pub record RefusedCases : Type 0 where
   -- a split of the argument, which is fixed, adds no second hypothesis, which Succ(x.1.1 + 0) = Succ(x.1.1) would be
   pub none_for_fixed : IsInductionFault addition
       (with_lemmas (nought_right_by (split_variable 0 ∷ same_sides ∷ split_variable 1 ∷ same_sides
-      ∷ use_of (by_hypothesis 1) left_side (0 ∷ []) ∷ []) ∷ []))
+      ∷ use_proof_line (by_hypothesis 1) left_side (0 ∷ []) ∷ []) ∷ []))
       13 bad_use
   -- and the first one is not put in normal form: it says Succ(x.1.1) + 0 = Succ(x.1.1), which stands nowhere in the goal
   pub hypothesis_as_it_is : IsInductionFault addition
       (with_lemmas (nought_right_by (split_variable 0 ∷ same_sides ∷ split_variable 1 ∷ same_sides
-      ∷ use_of (by_hypothesis 0) left_side (0 ∷ []) ∷ []) ∷ []))
+      ∷ use_proof_line (by_hypothesis 0) left_side (0 ∷ []) ∷ []) ∷ []))
       13 bad_use
   -- a variable that was split is out of scope, and one that is not there too
   pub gone_once_split : IsInductionFault addition
@@ -76,13 +76,13 @@ pub record RefusedCases : Type 0 where
   pub unknown_variable : IsInductionFault addition (with_lemmas (nought_right_by (split_variable 5 ∷ []) ∷ [])) 9 no_variable
   -- a path that leaves the term
   pub path_leads_nowhere : IsInductionFault addition
-      (with_lemmas (nought_right_by (split_variable 0 ∷ same_sides ∷ use_of (by_hypothesis 0) left_side (3 ∷ []) ∷ []) ∷ []))
+      (with_lemmas (nought_right_by (split_variable 0 ∷ same_sides ∷ use_proof_line (by_hypothesis 0) left_side (3 ∷ []) ∷ []) ∷ []))
       11 bad_use
   -- a line too few stands behind the last one, a line too many at its own
   pub line_too_few : IsInductionFault addition
       (with_lemmas (nought_right_by (split_variable 0 ∷ same_sides ∷ []) ∷ [])) 11 bad_line
   pub line_too_many : IsInductionFault addition
-      (with_lemmas (nought_right_by (split_variable 0 ∷ same_sides ∷ use_of (by_hypothesis 0) left_side (0 ∷ []) ∷ same_sides
+      (with_lemmas (nought_right_by (split_variable 0 ∷ same_sides ∷ use_proof_line (by_hypothesis 0) left_side (0 ∷ []) ∷ same_sides
       ∷ same_sides ∷ []) ∷ []))
       13 bad_line
   -- covers and trees
@@ -96,8 +96,8 @@ pub record RefusedCases : Type 0 where
 
 abbrev pub with_empty : Signature
 with_empty = record {
-  sorts = sort_named (codes "Nat") ∷ sort_named (codes "Empty") ∷ [];
-  operations = operation_named (codes "0") prefix_form [] 0 ∷ operation_named (codes "Succ") prefix_form (0 ∷ []) 0 ∷ [];
+  sorts = example_sort (codes "Nat") ∷ example_sort (codes "Empty") ∷ [];
+  operations = example_operation (codes "0") prefix_form [] 0 ∷ example_operation (codes "Succ") prefix_form (0 ∷ []) 0 ∷ [];
 }
 
 abbrev pub empty_data : Data
@@ -131,8 +131,8 @@ pub record EmptySortCases : Type 0 where
 
 abbrev pub single_signature : Signature
 single_signature = record {
-  sorts = sort_named (codes "One") ∷ [];
-  operations = operation_named (codes "a") prefix_form [] 0 ∷ [];
+  sorts = example_sort (codes "One") ∷ [];
+  operations = example_operation (codes "a") prefix_form [] 0 ∷ [];
 }
 
 abbrev pub single_theory : Theory
@@ -150,7 +150,7 @@ abbrev pub all_alike : Lemma
 all_alike = record {
   variables = 0 ∷ [];
   statement = states x_natural (node 0 no_terms);
-  lines = use_of (by_lemma 0) left_side [] ∷ same_sides ∷ [];
+  lines = use_proof_line (by_lemma 0) left_side [] ∷ same_sides ∷ [];
 }
 
 abbrev pub with_single : List Lemma → Certificate

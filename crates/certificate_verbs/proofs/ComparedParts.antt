@@ -4,7 +4,7 @@ use Rattle.std.proofs.lemmas.List.{append-nil}
 use Rattle.bisim_check.specs.LineTexts.{ArePairLines}
 use Rattle.certificate_theory.specs.Certificate.{CertificateLine, accepted}
 use Rattle.certificate_theory.specs.SameData.{AreSameData}
-use Rattle.command_words.specs.HandedOn.{Acceptance, IsAccepted, asked_for, GotFile, Comes, goes_on, unread, stops, wants_memory, Part}
+use Rattle.command_words.specs.HandedOn.{Acceptance, IsAccepted, asked_acceptance, GotFile, Comes, goes_on, unread, stops, wants_memory, Part}
 use Rattle.command_words.specs.HandedOn.{Then, Has, Looks, GetsFile, is_got, is_lacking, is_wanting}
 use Rattle.command_words.specs.Words.{Compared}
 use Rattle.certificate_verbs.specs.Certificates.{refused_printed, bisimilar_printed}
@@ -120,8 +120,8 @@ pub record IsYes (c : Compared) (files : List GotFile) (finish : Finish) : Type 
   pub other : Acceptance
   pub files_of_one : List GotFile
   pub files_of_other : List GotFile
-  pub one_accepted : IsAccepted (asked_for c.spec None []) files_of_one (goes_on one)
-  pub other_accepted : IsAccepted (asked_for c.other None []) files_of_other (goes_on other)
+  pub one_accepted : IsAccepted (asked_acceptance c.spec None []) files_of_one (goes_on one)
+  pub other_accepted : IsAccepted (asked_acceptance c.other None []) files_of_other (goes_on other)
   pub same : AreSameData one.data_ other.data_
   pub text : List ℕ
   pub lines : List CertificateLine

@@ -24,6 +24,7 @@ use Rattle.command_words.specs.HandedOn.{NotAccepted, File as Lacking, Spec, NoM
 use Rattle.command_words.proofs.HandedOn.{body_begins, did_then, has_done, wants_nothing, looked}
 use Rattle.lotos_base.specs.declared.faults.NoMemory.{NoMemory as CodeNoMemory}
 use Rattle.sort_terms.specs.declared.equations.Flat.{Flat}
+use Rattle.induct_check.proofs.HandedOn.{gives_nothing, some_within}
 use Rattle.bisim_check.specs.declared.faults.PairsFault.{PairsFault}
 use Rattle.bisim_check.specs.declared.faults.PairsFault.TheVariants as pairs_fault
 use Rattle.certificate_verbs.specs.Certificates.{CertificateRefusal, too_long, other_data, bad_line, faulty, refused_printed, bisimilar_text, bisimilar_printed}
@@ -33,7 +34,7 @@ use Rattle.certificate_verbs.specs.Printed.{print_in, IsFaultPrinted, IsPrinted,
 use Rattle.certificate_verbs.specs.declared.ended.Ended.TheVariants.{Done, CertificateRefused}
 use Rattle.certificate_verbs.specs.declared.printing.Alone.{Alone}
 use Rattle.certificate_verbs.proofs.PrintedLemmas.{print_is}
-use Rattle.certificate_verbs.proofs.PartLemmas.{gives_none, some_asked, ended_unread, ended_stops, want_first}
+use Rattle.certificate_verbs.proofs.PartLemmas.{ended_unread, ended_stops, want_first}
 
 -- ---- Parts that print
 
@@ -57,7 +58,7 @@ module _ {A : Type 0} (a b : ShelfState) (First : Part Print A) (next : A → Pa
 -- a look that stopped
 pub look_stops : {F B : Type 0} (now : ShelfState) (IsFine : B → Type 0) (IsFault : F → Type 0) (tell : F → Print) (fault : F)
     → IsFault fault → Did now now (Looks IsFine IsFault tell) (stops (tell fault))
-look_stops now IsFine IsFault tell fault is = ([], gives_none now, (refl, (fault, is, refl)))
+look_stops now IsFine IsFault tell fault is = ([], gives_nothing now, (refl, (fault, is, refl)))
 
 -- memory was wanted in a look
 pub look_wants : {F A : Type 0} (now : ShelfState) (IsFine : A → Type 0) (IsFault : F → Type 0) (tell : F → Print)
@@ -94,7 +95,7 @@ module _ (name : List ℕ) (next : List ℕ → Part Print Finish) (a b : ShelfS
   file_came (Spec r) is = absurd is
   file_came NoMemory is = came_wanting a b (GetsFile name) next (
     [],
-    some_asked a b [] (Unit {0}) (AsksBehind {E = Print} (GetsFile name) []) (λ asked. (name, is_lacking)) is,
+    some_within a b [] (Unit {0}) (AsksBehind {E = Print} (GetsFile name) []) (λ asked. (name, is_lacking)) is,
     is_wanting,
   )
 

@@ -6,4 +6,4 @@ pub use Rattle.command_words.proofs.HandedOn.{value_or, looks_determined, gets_d
 pub use Rattle.command_words.proofs.HandedOn.{scopes_are_decided, did_then, wants_nothing, failed_first, part_comes_over, err_out}
 pub use Rattle.command_words.proofs.WordsLemmas.{values_within}
 pub use Rattle.demo_walks.proofs.HandedOn.{counts_rise, count_rises}
-pub use Rattle.induct_check.proofs.HandedOn.{renamed_holds}
+pub use Rattle.induct_check.proofs.HandedOn.{renamed_holds, front, back, gives_nothing}

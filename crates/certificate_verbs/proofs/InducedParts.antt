@@ -1,6 +1,6 @@
 -- What comes of the words that check a certificate of induction: how they stop, and how they go on.
 use Rattle.std.proofs.Common.{◌≡◌, inr, ℕ, List, [], ◌∷◌, ◌++◌, None, refl, ap, ◌∙◌}
-use Rattle.command_words.specs.HandedOn.{Acceptance, IsAccepted, asked_for, GotFile, goes_on, stops, Has, GetsFile}
+use Rattle.command_words.specs.HandedOn.{Acceptance, IsAccepted, asked_acceptance, GotFile, goes_on, stops, Has, GetsFile}
 use Rattle.command_words.specs.Words.{Induced}
 use Rattle.certificate_verbs.specs.Comparing.{AcceptsNamed}
 use Rattle.certificate_verbs.specs.Finishing.{Print, print, Finish, prints}
@@ -31,7 +31,7 @@ pub record IsInduced (i : Induced) (files : List GotFile) (finish : Finish) : Ty
   pub finishes : finish ≡ prints (print report Done)
   pub one : Acceptance
   pub files_of_one : List GotFile
-  pub accepted : IsAccepted (asked_for i.spec None []) files_of_one (goes_on one)
+  pub accepted : IsAccepted (asked_acceptance i.spec None []) files_of_one (goes_on one)
   pub text : List ℕ
   pub all_files : files ≡ files_of_one ++ (record { name = i.proofs; bytes = text } ∷ [])
   pub is_report : IsReport i.spec one text report

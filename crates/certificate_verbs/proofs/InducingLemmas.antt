@@ -12,7 +12,7 @@ use Rattle.induct_check.specs.BookView.{book_theory}
 use Rattle.induct_check.specs.CheckView.{IsCertifiedText}
 use Rattle.induct_check.specs.FaultTexts.{IsTold}
 use Rattle.induct_check.specs.TextFaults.{IsTextFault}
-use Rattle.induct_check.specs.HandedOn.{IsMetBy, IsLeftOpen, Theory, Lemma, bad_line, no_variable, no_cover, no_tree, not_reducible, bad_use, not_same, AllLemmasHold, HoldsAtLine, lemmas_in, AtLine, LineFault, StatedLemma, HoldsOfFault, statement_of}
+use Rattle.induct_check.specs.HandedOn.{IsMetBy, IsLeftOpen, Theory, Lemma, bad_line, no_variable, no_cover, no_tree, not_reducible, bad_use, not_same, AllLemmasHold, HoldsAtLine, lemmas_in, AtLine, LineFault, StatedLemma, HoldsOfLineFault, statement_of}
 use Rattle.induct_check.specs.HandedOn.line_faults as fault
 use Rattle.command_words.specs.HandedOn.{Acceptance, ShelfState, TextNames, place_text, book_chooses, rules_in, precedence_in, goes_on, Has}
 use Rattle.command_words.specs.HandedOn.{HoldsRequired, HoldsWithRequirements, Required, WithRequirements}
@@ -20,7 +20,7 @@ use Rattle.command_words.proofs.HandedOn.{did_then, has_done, looked}
 use Rattle.lotos_base.specs.declared.faults.NoMemory.{NoMemory as CodeNoMemory}
 use Rattle.sort_terms.specs.declared.equations.Equation.{Equation}
 use Rattle.certificate_verbs.specs.Finishing.{Print, print, prints}
-use Rattle.certificate_verbs.specs.Inducing.{IsTheoryOf, HasAnswer, answer_text, requirement_line, AreLines, counts_text, IsReport, InductionRefusal, proofs_too_long, wrong_at, IsRefusedBy, induction_refusal_text, induction_refused, ChecksProofs, ReportsThen}
+use Rattle.certificate_verbs.specs.Inducing.{IsTheoryOf, HasAnswer, answer_text, requirement_line, AreLines, certified_counts_text, IsReport, InductionRefusal, proofs_too_long, wrong_at, IsRefusedBy, induction_refusal_text, induction_refused, ChecksProofs, ReportsThen}
 use Rattle.certificate_verbs.specs.Printed.{IsReportAlone, IsPrinted, PartCame}
 use Rattle.certificate_verbs.specs.declared.ended.Ended.TheVariants.{Done, CertificateRefused}
 use Rattle.certificate_verbs.specs.declared.printing.Alone.{Alone}
@@ -65,7 +65,7 @@ module _ (spec : List ℕ) (first : Acceptance) (now : ShelfState) (text : List 
   proofs_long long made = proofs_stop proofs_too_long long made
 
   module _ (theory : Theory) (short : length text ≤ text_limit) (theory_is : IsTheoryOf first theory) where
-    fault_by : (line : ℕ) (f : LineFault) → HoldsOfFault (IsTextFault theory text line) f
+    fault_by : (line : ℕ) (f : LineFault) → HoldsOfLineFault (IsTextFault theory text line) f
         → IfOk answer (λ (alone : Alone). IsTold first.data_.signature line f alone.text.items × (alone.ended ≡ CertificateRefused))
         → IsAnswered (ReportsThen spec first text) now now answer
     fault_by line fault.BadLine wrong made = proofs_stop (wrong_at line bad_line) (short, (theory, theory_is, wrong)) made
@@ -101,7 +101,7 @@ module _ (spec : List ℕ) (first : Acceptance) (now : ShelfState) (text : List 
         lines = is.lines;
         answered = subst (λ (ls : List (List ℕ)). AreLines (record { spec = spec; order = []; libraries = ls }) (lemmas_in lemmas)
             (map equation_of required.equations.items) is.lines) holds.libraries is.answered;
-        report_is = is.text_is ∙ (λ i. counts_text (few i) (many i) ++ is.lines);
+        report_is = is.text_is ∙ (λ i. certified_counts_text (few i) (many i) ++ is.lines);
       }
         where
           few : length lemmas ≡ length (lemmas_in lemmas)
@@ -196,7 +196,7 @@ line_there names lemmas equation answer before between after is placed answered_
 -- the two counts, part by part
 pub counts_written : (s0 s1 s2 s3 s4 s5 : List ℕ) (lemmas requirements : ℕ) → s1 ≡ s0 ++ codes "certified " → s2 ≡ s1 ++ decimal lemmas
     → s3 ≡ s2 ++ codes " lemmas\nrequirements " → s4 ≡ s3 ++ decimal requirements → s5 ≡ s4 ++ codes "\n"
-    → s5 ≡ s0 ++ counts_text lemmas requirements
+    → s5 ≡ s0 ++ certified_counts_text lemmas requirements
 counts_written s0 s1 s2 s3 s4 s5 lemmas requirements e1 e2 e3 e4 e5 =
     two_pieces s0 s4 s5 _ (codes "\n")
     (two_pieces s0 s3 s4 _ (decimal requirements)
@@ -206,7 +206,7 @@ counts_written s0 s1 s2 s3 s4 s5 lemmas requirements e1 e2 e3 e4 e5 =
 -- the whole report
 pub report_made : (spec : List ℕ) (required : Required) (lemmas : List StatedLemma) (names : TextNames) (alone : Alone)
     (m q : ℕ) (before between : List ℕ) → names ≡ record { spec = spec; order = []; libraries = map spelling required.libraries.items }
-    → m ≡ length lemmas → q ≡ length required.equations.items → before ≡ [] → between ≡ before ++ counts_text m q
+    → m ≡ length lemmas → q ≡ length required.equations.items → before ≡ [] → between ≡ before ++ certified_counts_text m q
     → (lines : List ℕ) × AreLines names (lemmas_in lemmas) (map equation_of required.equations.items) lines
     × (alone.text.items ≡ between ++ lines)
     → alone.ended ≡ Done → IsReportAlone spec required lemmas alone
@@ -215,6 +215,6 @@ report_made spec required lemmas names alone m q before between named few many n
   answered = subst (λ (it : TextNames). AreLines it (lemmas_in lemmas) (map equation_of required.equations.items) made.0) named made.1;
   text_is = made.2
       ∙ ap (λ (t : List ℕ). t ++ made.0)
-      (counts ∙ (λ i. none i ++ counts_text (few i) (many i)));
+      (counts ∙ (λ i. none i ++ certified_counts_text (few i) (many i)));
   ended_is = ended;
 }

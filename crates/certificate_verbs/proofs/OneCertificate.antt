@@ -8,13 +8,14 @@ use Rattle.std.proofs.lemmas.Bool.{and_parts, cases_lt}
 use Rattle.lotos_base.specs.Equation.{IsWellFormedData}
 use Rattle.lotos_base.specs.Outside.{Texts}
 use Rattle.lotos_base.specs.Term.{Term}
+use Rattle.lotos_base.proofs.Pieces.{same_heads}
 use Rattle.behaviour_semantics.specs.WellFormed.{Every}
 use Rattle.bisim_check.specs.LineTexts.{two_numbers, line_text, HasSmallNumbers, IsWritten, ArePairLines, IsFirstBadLine}
-use Rattle.bisim_check.proofs.NumberTexts.{written_digits, written_value}
+use Rattle.bisim_check.proofs.NumberTexts.{written_digits, written_value, no_blank_digit}
 use Rattle.certificate_theory.specs.Certificate.{CertificateLine, names_left, names_right, lists_pair, CertificateFault, CertificateOutcome, accepted, refused}
 use Rattle.certificate_theory.specs.CertificateLaws.{CertificatesComeToOneThing}
 use Rattle.certificate_theory.specs.Checking.{CertificateComesTo}
-use Rattle.command_words.specs.HandedOn.{Acceptance, IsAccepted, got_from, ComesOfPart, asked_for, GotFile, Files, Comes, goes_on, unread}
+use Rattle.command_words.specs.HandedOn.{Acceptance, IsAccepted, got_from, ComesOfPart, asked_acceptance, GotFile, Files, Comes, goes_on, unread}
 use Rattle.command_words.specs.HandedOn.{stops, wants_memory, Part, Has, Telling, Lacks, IsDetermined, IsDecided, GetsFile}
 use Rattle.command_words.proofs.HandedOn.{accepted_data, normal_forms_once, one_of_part, acceptance_has_one_outcome, has_determined}
 use Rattle.command_words.proofs.HandedOn.{looks_determined, then_determined, gets_determined}
@@ -25,17 +26,14 @@ use Rattle.certificate_verbs.specs.Finishing.{Print, Finish, prints, refusal_pri
 
 -- ---- Lines
 
-no_blank : (d : ℕ) → is_ascii_digit d ≡ true → d ≡ 32 → ⊥
-no_blank d is same = cc (sym (ap (λ (n : ℕ). is_ascii_digit n) same) ∙ is)
-
 -- two numbers are cut at the blank between them in one way
 cut_once : (ms ns ps qs : List ℕ) → all_ascii_digits ms ≡ true → all_ascii_digits ps ≡ true → ms ++ (32 ∷ ns) ≡ ps ++ (32 ∷ qs)
     → (ms ≡ ps) × (ns ≡ qs)
 cut_once [] ns [] qs one other same = let rest : ns ≡ qs = cc same in (refl, rest)
 cut_once [] ns (p ∷ ps) qs one other same =
-    let is : 32 ≡ p = cc same in absurd (no_blank p (and_parts (is_ascii_digit p) (all_ascii_digits ps) other).0 (sym is))
+    let is : 32 ≡ p = cc same in absurd (no_blank_digit p (and_parts (is_ascii_digit p) (all_ascii_digits ps) other).0 (sym is))
 cut_once (m ∷ ms) ns [] qs one other same =
-    let is : m ≡ 32 = cc same in absurd (no_blank m (and_parts (is_ascii_digit m) (all_ascii_digits ms) one).0 is)
+    let is : m ≡ 32 = cc same in absurd (no_blank_digit m (and_parts (is_ascii_digit m) (all_ascii_digits ms) one).0 is)
 cut_once (m ∷ ms) ns (p ∷ ps) qs one other same =
     let first : m ≡ p = cc same in
     let rest : ms ++ (32 ∷ ns) ≡ ps ++ (32 ∷ qs) = cc same in
@@ -53,9 +51,6 @@ numbers_once m n p q small also same =
     let cut = cut_once (decimal m) (decimal n) (decimal p) (decimal q) (written_digits m small.0) (written_digits p also.0) same in
     (value_once m p small.0 also.0 cut.0, value_once n q small.1 also.1 cut.1)
 
-first_letter : (m n : ℕ) (ms ns : List ℕ) → m ∷ ms ≡ n ∷ ns → m ≡ n
-first_letter m n ms ns same = cc same
-
 line_once : (one other : CertificateLine) → HasSmallNumbers one → HasSmallNumbers other → line_text one ≡ line_text other → one ≡ other
 line_once (names_left m n) (names_left p q) small also same =
     let rest : two_numbers m n ≡ two_numbers p q = cc same in
@@ -70,17 +65,17 @@ line_once (lists_pair m n) (lists_pair p q) small also same =
     let both = numbers_once m n p q small also rest in
     (λ i. lists_pair (both.0 i) (both.1 i))
 line_once (names_left m n) (names_right p q) small also same =
-    absurd (omega (arith, first_letter 108 114 (32 ∷ two_numbers m n) (32 ∷ two_numbers p q) same))
+    absurd (omega (arith, same_heads 108 114 (32 ∷ two_numbers m n) (32 ∷ two_numbers p q) same))
 line_once (names_left m n) (lists_pair p q) small also same =
-    absurd (omega (arith, first_letter 108 112 (32 ∷ two_numbers m n) (32 ∷ two_numbers p q) same))
+    absurd (omega (arith, same_heads 108 112 (32 ∷ two_numbers m n) (32 ∷ two_numbers p q) same))
 line_once (names_right m n) (names_left p q) small also same =
-    absurd (omega (arith, first_letter 114 108 (32 ∷ two_numbers m n) (32 ∷ two_numbers p q) same))
+    absurd (omega (arith, same_heads 114 108 (32 ∷ two_numbers m n) (32 ∷ two_numbers p q) same))
 line_once (names_right m n) (lists_pair p q) small also same =
-    absurd (omega (arith, first_letter 114 112 (32 ∷ two_numbers m n) (32 ∷ two_numbers p q) same))
+    absurd (omega (arith, same_heads 114 112 (32 ∷ two_numbers m n) (32 ∷ two_numbers p q) same))
 line_once (lists_pair m n) (names_left p q) small also same =
-    absurd (omega (arith, first_letter 112 108 (32 ∷ two_numbers m n) (32 ∷ two_numbers p q) same))
+    absurd (omega (arith, same_heads 112 108 (32 ∷ two_numbers m n) (32 ∷ two_numbers p q) same))
 line_once (lists_pair m n) (names_right p q) small also same =
-    absurd (omega (arith, first_letter 112 114 (32 ∷ two_numbers m n) (32 ∷ two_numbers p q) same))
+    absurd (omega (arith, same_heads 112 114 (32 ∷ two_numbers m n) (32 ∷ two_numbers p q) same))
 
 lines_once : (one other : List CertificateLine) → Every HasSmallNumbers one → Every HasSmallNumbers other
     → map line_text one ≡ map line_text other → one ≡ other
@@ -206,8 +201,8 @@ telling_determined tell whole got determined files others one other is also all 
 
 pub named_determined : (name : List ℕ) (got : Files) → IsDetermined got (AcceptsNamed name)
 named_determined name got =
-    telling_determined (refusal_printed name None) (IsAccepted (asked_for name None [])) got
-    (acceptance_has_one_outcome (asked_for name None []) got)
+    telling_determined (refusal_printed name None) (IsAccepted (asked_acceptance name None [])) got
+    (acceptance_has_one_outcome (asked_acceptance name None []) got)
 
 -- ---- The words
 

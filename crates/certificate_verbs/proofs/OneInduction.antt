@@ -13,7 +13,7 @@ use Rattle.command_words.proofs.HandedOn.{has_determined, looks_determined, then
 use Rattle.command_words.specs.Words.{Induced}
 use Rattle.certificate_verbs.specs.Comparing.{AcceptsNamed}
 use Rattle.certificate_verbs.specs.Finishing.{Print, print, Finish, prints}
-use Rattle.certificate_verbs.specs.Inducing.{IsTheoryOf, HasAnswer, requirement_line, AreLines, counts_text, names_in, IsReport, InductionRefusal, proofs_too_long, wrong_at, IsRefusedBy, induction_refused, ChecksProofs, ReportsThen, ProvesThen, ChecksInduction}
+use Rattle.certificate_verbs.specs.Inducing.{IsTheoryOf, HasAnswer, requirement_line, AreLines, certified_counts_text, names_in, IsReport, InductionRefusal, proofs_too_long, wrong_at, IsRefusedBy, induction_refused, ChecksProofs, ReportsThen, ProvesThen, ChecksInduction}
 use Rattle.certificate_verbs.specs.declared.ended.Ended.TheVariants.{Done}
 use Rattle.certificate_verbs.proofs.OneCertificate.{named_determined}
 
@@ -95,7 +95,7 @@ module _ (one_fault : FirstFaultsAreOne) (no_fault : RightOnesHaveNoFault) (met 
       lines_once met open_ (names_in spec one) is.lemmas is.requirements is.lines also.lines is.answered
       (subst (λ (ls : List Lemma). AreLines (names_in spec one) ls is.requirements also.lines) (sym lemmas)
       (subst (λ (es : List Equation). AreLines (names_in spec one) also.lemmas es also.lines) (sym requirements) also.answered)) in
-      is.report_is ∙ (λ i. counts_text (length (lemmas i)) (length (requirements i)) ++ lines i) ∙ sym also.report_is
+      is.report_is ∙ (λ i. certified_counts_text (length (lemmas i)) (length (requirements i)) ++ lines i) ∙ sym also.report_is
 
   report_or_refused : (report : List ℕ) (refusal : InductionRefusal) → IsReport spec one text report → IsRefusedBy one text refusal → ⊥
   report_or_refused report proofs_too_long is long = let short = is.short in omega (arith, short, long)

@@ -1,14 +1,9 @@
 -- Parts of the work, one after another, over a shelf.
-use Rattle.std.proofs.Common.{◌≡◌, ◌⊎◌, inl, inr, ℕ, List, [], ◌++◌, refl, ap, ◌∙◌}
-use Rattle.std.proofs.lemmas.List.Elements.{All-nil}
+use Rattle.std.proofs.Common.{◌≡◌, inl, ℕ, List, [], ◌++◌, refl, ap, ◌∙◌}
 use Rattle.std.proofs.lemmas.List.{append-nil}
-use Rattle.lotos_base.specs.Counts.{next_count}
-use Rattle.command_words.specs.HandedOn.{ShelfState, GotFile, IsFileOf, Gives, GivesSome, calls_after, AsksBehind, Did, goes_on, unread}
+use Rattle.induct_check.proofs.HandedOn.{some_within}
+use Rattle.command_words.specs.HandedOn.{ShelfState, GotFile, AsksBehind, Did, goes_on, unread}
 use Rattle.command_words.specs.HandedOn.{stops, wants_memory, Part, Then, Telling}
-
--- nothing was got
-pub gives_none : (a : ShelfState) → Gives a a []
-gives_none a = record { texts = refl; content = All-nil (IsFileOf a.texts); faults = refl; calls = refl }
 
 -- a part whose faults are told otherwise
 pub told : {E G B : Type 0} (a b : ShelfState) (tell : E → G) (part : Part E B) (x : B) → Did a b part (goes_on x)
@@ -36,21 +31,11 @@ pub ended_stops : {E A B : Type 0} (a b : ShelfState) (First : Part E A) (next :
     → Did a b (Then First next) (stops e)
 ended_stops a b First next e did = (did.0, did.1, inl did.2)
 
--- or memory was wanted in it
-pub some_asked : (a b : ShelfState) (files : List GotFile) (Here There : Type 0) → (Here → There) → GivesSome a b files Here
-    → GivesSome a b files There
-some_asked a b files Here There leads is = record { texts = is.texts; content = is.content; faults = is.faults; calls = by is.calls }
-  where
-    by : (b.calls ≡ calls_after files a.calls) ⊎ (Here × (b.calls ≡ next_count (calls_after files a.calls)))
-        → (b.calls ≡ calls_after files a.calls) ⊎ (There × (b.calls ≡ next_count (calls_after files a.calls)))
-    by (inl all) = inl all
-    by (inr asked) = inr (leads asked.0, asked.1)
-
 pub want_first : {E A B : Type 0} (a b : ShelfState) (First : Part E A) (next : A → Part E B) → Did a b First wants_memory
     → Did a b (Then First next) wants_memory
 want_first a b First next did = (
   did.0,
-  some_asked a b did.0 (AsksBehind First did.0) (AsksBehind (Then First next) did.0) (λ asks. (asks.0, inl asks.1)) did.1,
+  some_within a b did.0 (AsksBehind First did.0) (AsksBehind (Then First next) did.0) (λ asks. (asks.0, inl asks.1)) did.1,
   inl did.2,
 )
 

@@ -12,17 +12,17 @@ pub data CertificateRefusal : Type 0 where
   faulty : CertificateFault → CertificateRefusal
 
 -- a refusal at a line
-abbrev pub at_line : (refusal : List ℕ) (line : ℕ) → List ℕ
-at_line refusal line = refusal ++ codes " line " ++ decimal line ++ codes "\n"
+abbrev pub refusal_at_line : (refusal : List ℕ) (line : ℕ) → List ℕ
+refusal_at_line refusal line = refusal ++ codes " line " ++ decimal line ++ codes "\n"
 
 -- a refusal at the line of a pair, for an entry of one side
 abbrev pub at_entry : (line : ℕ) (side : List ℕ) (entry : ℕ) → List ℕ
 at_entry line side entry = codes "refused 907 Unmatched line " ++ decimal line ++ side ++ decimal entry ++ codes "\n"
 
 abbrev pub fault_line : CertificateFault → List ℕ
-fault_line (no_state line) = at_line (codes "refused 903 NoState") line
-fault_line (no_entry line) = at_line (codes "refused 904 NoEntry") line
-fault_line (open_menu line) = at_line (codes "refused 905 OpenMenu") line
+fault_line (no_state line) = refusal_at_line (codes "refused 903 NoState") line
+fault_line (no_entry line) = refusal_at_line (codes "refused 904 NoEntry") line
+fault_line (open_menu line) = refusal_at_line (codes "refused 905 OpenMenu") line
 fault_line no_start_pair = codes "refused 906 NoStartPair\n"
 fault_line (unmatched_left line entry) = at_entry line (codes " left ") entry
 fault_line (unmatched_right line entry) = at_entry line (codes " right ") entry
@@ -30,7 +30,7 @@ fault_line (unmatched_right line entry) = at_entry line (codes " right ") entry
 abbrev pub certificate_refusal_text : CertificateRefusal → List ℕ
 certificate_refusal_text too_long = codes "refused 900 TooLong\n"
 certificate_refusal_text other_data = codes "refused 901 OtherData\n"
-certificate_refusal_text (bad_line line) = at_line (codes "refused 902 BadLine") line
+certificate_refusal_text (bad_line line) = refusal_at_line (codes "refused 902 BadLine") line
 certificate_refusal_text (faulty fault) = fault_line fault
 
 abbrev pub refused_printed : CertificateRefusal → Print

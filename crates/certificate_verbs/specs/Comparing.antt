@@ -9,7 +9,7 @@ use Rattle.certificate_theory.specs.BisimulationLaws.{IsComparable}
 use Rattle.certificate_theory.specs.Certificate.{CertificateLine, CertificateFault, CertificateOutcome, accepted, refused, Comparison}
 use Rattle.certificate_theory.specs.Checking.{CertificateComesTo}
 use Rattle.certificate_theory.specs.SameData.{AreSameData}
-use Rattle.command_words.specs.HandedOn.{Acceptance, IsAccepted, ComesOfPart, asked_for, Comes, Part, Then, Has, Looks, Telling, GetsFile}
+use Rattle.command_words.specs.HandedOn.{Acceptance, IsAccepted, ComesOfPart, asked_acceptance, Comes, Part, Then, Has, Looks, Telling, GetsFile}
 use Rattle.command_words.specs.Words.{Compared}
 use Rattle.certificate_verbs.specs.Certificates.{CertificateRefusal, too_long, other_data, bad_line, faulty, refused_printed, bisimilar_printed}
 use Rattle.certificate_verbs.specs.Finishing.{Print, Finish, prints, refusal_printed}
@@ -39,7 +39,7 @@ pub record IsJudged (one other : Acceptance) (lines : List CertificateLine) (out
 
 -- the specification under the name is accepted; a refusal is told by this name
 abbrev pub AcceptsNamed : List ℕ → Part Print Acceptance
-AcceptsNamed name = Telling (refusal_printed name None) (IsAccepted (asked_for name None []))
+AcceptsNamed name = Telling (refusal_printed name None) (IsAccepted (asked_acceptance name None []))
 
 -- the data of the two are the same, or they are not
 abbrev pub IsSameIn : (one other same : Acceptance) → Type 0

@@ -8,7 +8,7 @@ pub use Rattle.command_words.specs.HandedOn.{book_canon, book_chooses, book_is_c
 pub use Rattle.command_words.specs.HandedOn.{Acceptance, HoldsAccepted, Accepted, ShelfState, GotFile, Gives, Comes, goes_on, unread, stops}
 pub use Rattle.command_words.specs.HandedOn.{wants_memory, Refused, Asked, Founded, IsAccepted, IsFounded, Part, Then, Has, Telling, Lacks}
 pub use Rattle.command_words.specs.HandedOn.{AreGotFrom, got_from, ComesOfPart, FoundsWith, WithBook, ComesOver, shelf_state, IsFileOf}
-pub use Rattle.command_words.specs.HandedOn.{refused_of, AcceptsText, Failed, NotAccepted, File, Spec, NoMemory, asked_for, words_of, Opens}
+pub use Rattle.command_words.specs.HandedOn.{refused_of, AcceptsText, Failed, NotAccepted, File, Spec, NoMemory, asked_acceptance, words_of, Opens}
 pub use Rattle.command_words.specs.HandedOn.{FoundedBy, start_of, Founds, StartsWithValues, accepted_with, founded_with, DataAreWellFormed}
 pub use Rattle.command_words.specs.HandedOn.{OpensBook, ComesToAgreement, FunctionalitiesAgree, Guarded, IsGuardedIn, KeepsSpecification}
 pub use Rattle.command_words.specs.HandedOn.{Disagree, FunctionalityFault, differ_at, with_spec, StartValuesAreGround, Gathered, faulty}
@@ -20,8 +20,8 @@ pub use Rattle.command_words.specs.HandedOn.{StandsFor, Breaks, scopes_told, Res
 pub use Rattle.command_words.specs.HandedOn.{is_wanting, ReadsSpecification, ReadsOrder, Orders, HaveData, HaveFault, types_told, Flattens}
 pub use Rattle.command_words.specs.HandedOn.{are_within, Refusal, AreStartValues, IsStartFault, WordTerm, HaveValues, HaveTermFault, Start}
 pub use Rattle.command_words.specs.HandedOn.{misread, miscounted, misfitting}
-pub use Rattle.command_words.specs.Words.{CommandLine, Compared, check, session, demonstration, flattening, bisimilarity, Induced, line_of}
-pub use Rattle.command_words.specs.Words.{induction, usage_text, command_line, compared, induced}
+pub use Rattle.command_words.specs.Words.{CommandLine, Compared, check, session, demonstration, flattening, bisimilarity, Induced, command_line_of}
+pub use Rattle.command_words.specs.Words.{induction, usage_text, command_line, compared_files, induced}
 pub use Rattle.command_words.specs.declared.commands.Command.{Command}
 pub use Rattle.demo_walks.specs.DemoSummary.{IsSummary}
 pub use Rattle.demo_walks.specs.DemoText.{demo_text}

@@ -29,7 +29,7 @@ pub record IsTheoryOf (one : Acceptance) (theory : Theory) : Type 0 where
   pub canonical : Chooses (rules_of rules) theory.canon
 
 -- The text is a right certificate with these lemmas, each of which holds by induction, and the sort of each cover is covered.
-pub record IsChecked (one : Acceptance) (text : List ℕ) (lemmas : List Lemma) : Type 0 where
+pub record IsCheckedCertificate (one : Acceptance) (text : List ℕ) (lemmas : List Lemma) : Type 0 where
   pub theory : Theory
   pub theory_is : IsTheoryOf one theory
   pub certified : IsCertifiedText theory text lemmas
@@ -57,8 +57,8 @@ AreLines names lemmas (equation ∷ equations) text =
     (answer : Option ℕ) × (lines : List ℕ) × HasAnswer lemmas equation answer × AreLines names lemmas equations lines
     × (text ≡ requirement_line names equation answer ++ lines)
 
-abbrev pub counts_text : (lemmas requirements : ℕ) → List ℕ
-counts_text lemmas requirements =
+abbrev pub certified_counts_text : (lemmas requirements : ℕ) → List ℕ
+certified_counts_text lemmas requirements =
     codes "certified " ++ decimal lemmas ++ codes " lemmas\nrequirements " ++ decimal requirements ++ codes "\n"
 
 -- the specification by the word for it, and the libraries that were read
@@ -69,12 +69,12 @@ names_in spec one = record { spec = spec; order = []; libraries = one.libraries 
 pub record IsReport (spec : List ℕ) (one : Acceptance) (text report : List ℕ) : Type 0 where
   pub short : length text ≤ text_limit
   pub lemmas : List Lemma
-  pub checked : IsChecked one text lemmas
+  pub checked : IsCheckedCertificate one text lemmas
   pub requirements : List Equation
   pub required : AreRequirements one.types requirements
   pub lines : List ℕ
   pub answered : AreLines (names_in spec one) lemmas requirements lines
-  pub report_is : report ≡ counts_text (length lemmas) (length requirements) ++ lines
+  pub report_is : report ≡ certified_counts_text (length lemmas) (length requirements) ++ lines
 
 -- ---- Refusals
 

@@ -12,7 +12,7 @@ use Rattle.bisim_check.specs.declared.faults.PairsFault.{PairsFault}
 use Rattle.bisim_check.specs.declared.faults.PairsFault.TheVariants as pairs_fault
 use Rattle.certificate_verbs.specs.Certificates.{faulty, refused_printed}
 use Rattle.certificate_verbs.specs.Finishing.{Print, print, Finish, prints, serves, unread_printed, refusal_printed}
-use Rattle.certificate_verbs.specs.Inducing.{AreLines, counts_text}
+use Rattle.certificate_verbs.specs.Inducing.{AreLines, certified_counts_text}
 use Rattle.certificate_verbs.specs.declared.ended.Ended.TheVariants.{Done}
 use Rattle.certificate_verbs.specs.declared.printing.Alone.{Alone}
 
@@ -59,5 +59,5 @@ pub record IsReportAlone (spec : List ℕ) (required : Required) (lemmas : List 
   pub answered :
       AreLines (record { spec = spec; order = []; libraries = map spelling required.libraries.items }) (lemmas_in lemmas)
       (map equation_of required.equations.items) lines
-  pub text_is : alone.text.items ≡ counts_text (length lemmas) (length required.equations.items) ++ lines
+  pub text_is : alone.text.items ≡ certified_counts_text (length lemmas) (length required.equations.items) ++ lines
   pub ended_is : alone.ended ≡ Done

@@ -2,7 +2,7 @@
 
 ghost use Rattle.bisim_check.specs.LineView.{line_of as line_said};
 ghost use Rattle.certificate_theory.specs.SameData.{AreSameData};
-ghost use Rattle.certificate_verbs.specs.Certificates.{at_entry, at_line, bisimilar_text};
+ghost use Rattle.certificate_verbs.specs.Certificates.{at_entry, refusal_at_line, bisimilar_text};
 ghost use Rattle.certificate_verbs.specs.Comparing.{
   AcceptsThen,
   ChecksCertificate,
@@ -28,7 +28,7 @@ ghost use Rattle.command_words.specs.HandedOn.{
   ShelfState,
   shelf_state,
 };
-ghost use Rattle.command_words.specs.Words.{compared as names_compared};
+ghost use Rattle.command_words.specs.Words.{compared_files as names_compared};
 ghost use Rattle.sort_terms.specs.EquationView.{data_of};
 ghost use Rattle.std.specs.Prelude.{
   ◌≡◌,
@@ -298,7 +298,7 @@ fn entry_refused(alloc: Global, line: u32, side: &[u8], entry: u64) -> Result<Al
 
 // The line of a refusal that stands at a line of the certificate.
 fn line_refused(alloc: Global, refusal: &[u8], line: u32) -> Result<Alone, NoMemory>
-    ensures { IfOk result (λ alone. (alone.text.items ≡ at_line refusal.now line)
+    ensures { IfOk result (λ alone. (alone.text.items ≡ refusal_at_line refusal.now line)
         × (alone.ended ≡ certificate_refused)) }
 {
     let mut text = Vec::new(alloc);

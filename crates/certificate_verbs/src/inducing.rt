@@ -7,7 +7,7 @@ ghost use Rattle.certificate_verbs.specs.Inducing.{
   ProvesThen,
   ReportsThen,
   answer_text,
-  counts_text,
+  certified_counts_text,
   requirement_line,
 };
 ghost use Rattle.certificate_verbs.specs.Printed.{IsPrinted, IsReportAlone, PartCame};
@@ -24,7 +24,7 @@ ghost use Rattle.command_words.specs.HandedOn.{
 ghost use Rattle.command_words.specs.Words.{induced as names_induced};
 ghost use Rattle.induct_check.specs.FaultTexts.{IsTold};
 ghost use Rattle.induct_check.specs.HandedOn.{IsKnownLemma, lemmas_in};
-ghost use Rattle.lotos_base.proofs.ExampleHelpers.{Each};
+ghost use Rattle.lotos_base.proofs.Each.{Each};
 ghost use Rattle.lotos_base.specs.Signature.{Signature as PlainSignature};
 ghost use Rattle.sort_terms.specs.EquationView.{equation_of};
 ghost use Rattle.sort_terms.specs.SignatureView.{signature_of};
@@ -164,7 +164,7 @@ fn report_alone(
 // Appends the lines of the two counts.
 fn push_counts(lemmas: usize, requirements: usize, into: &mut Vec<u8>) -> Result<(), NoMemory>
     ensures { OnOk result (into.new.items
-        ≡ into.old.items ++ counts_text lemmas requirements) }
+        ≡ into.old.items ++ certified_counts_text lemmas requirements) }
 {
     push_text(into, b"certified ")?;
     push_number(into, lemmas as u128)?;

@@ -6,7 +6,7 @@ use Rattle.std.proofs.lemmas.Bool.{and_parts, leb-true}
 use Rattle.std.proofs.lemmas.Option.{none-some, same_Some}
 use Rattle.spec_acceptance.specs.HandedOn.{words_limit, word_bytes_limit, total_length, are_within}
 use Rattle.spec_acceptance.specs.Acceptance.{Asked}
-use Rattle.command_words.specs.Words.{CommandLine, Verb, check, session, demonstration, flattening_of, bisimilarity, compared_with, induction, induced_with, WordsBehind, words_behind, ends_files, file_before, cut_at_with, takes_words, asked_with, number_up_to, or_this, most_cells, cells_with, line_with, line_of_verb, verb_named, verbs, words_line, command_line, values_in}
+use Rattle.command_words.specs.Words.{CommandLine, Verb, check, session, demonstration, flattening_of, bisimilarity, compared_with, induction, induced_with, WordsBehind, words_behind, ends_files, file_before, cut_at_with, takes_words, asked_with_files, number_up_to, or_this, most_cells, cells_with, line_with, line_of_verb, verb_named, verbs, words_line, command_line, start_values_in}
 use Rattle.command_words.specs.declared.commands.Task.{Task}
 use Rattle.command_words.specs.declared.commands.Task.TheVariants as task
 
@@ -55,7 +55,7 @@ cut_part (word ∷ words) =
 -- ---- Those of a line
 
 -- the start values that are asked for are those that are given
-asked_values : (files values : List (List ℕ)) (asked : Asked) → asked_with files values ≡ Some asked → asked.values ≡ values
+asked_values : (files values : List (List ℕ)) (asked : Asked) → asked_with_files files values ≡ Some asked → asked.values ≡ values
 asked_values [] values asked is = absurd (none-some asked is)
 asked_values (spec ∷ []) values asked is = ap (λ (it : Asked). it.values) (sym (same_Some _ asked is))
 asked_values (spec ∷ order ∷ []) values asked is = ap (λ (it : Asked). it.values) (sym (same_Some _ asked is))
@@ -63,33 +63,33 @@ asked_values (spec ∷ order ∷ more ∷ files) values asked is = absurd (none-
 
 -- a line that is made of what is asked has the start values of that
 of_asked : (make : Asked → CommandLine) (found : Option Asked) (values : List (List ℕ)) (line : CommandLine)
-    → ((asked : Asked) → values_in (make asked) ≡ asked.values)
-    → ((asked : Asked) → found ≡ Some asked → asked.values ≡ values) → option_map make found ≡ Some line → values_in line ≡ values
+    → ((asked : Asked) → start_values_in (make asked) ≡ asked.values)
+    → ((asked : Asked) → found ≡ Some asked → asked.values ≡ values) → option_map make found ≡ Some line → start_values_in line ≡ values
 of_asked make None values line kept are is = absurd (none-some line is)
 of_asked make (Some asked) values line kept are is =
-    ap (λ (it : CommandLine). values_in it) (sym (same_Some (make asked) line is)) ∙ kept asked ∙ are asked refl
+    ap (λ (it : CommandLine). start_values_in it) (sym (same_Some (make asked) line is)) ∙ kept asked ∙ are asked refl
 
 -- a line that is made without start values has none
-of_none : {A : Type 0} (make : A → CommandLine) (found : Option A) (line : CommandLine) → ((a : A) → values_in (make a) ≡ [])
-    → option_map make found ≡ Some line → values_in line ≡ []
+of_none : {A : Type 0} (make : A → CommandLine) (found : Option A) (line : CommandLine) → ((a : A) → start_values_in (make a) ≡ [])
+    → option_map make found ≡ Some line → start_values_in line ≡ []
 of_none make None line none is = absurd (none-some line is)
-of_none make (Some a) line none is = ap (λ (it : CommandLine). values_in it) (sym (same_Some (make a) line is)) ∙ none a
+of_none make (Some a) line none is = ap (λ (it : CommandLine). start_values_in it) (sym (same_Some (make a) line is)) ∙ none a
 
-none_part : (words : List (List ℕ)) (line : CommandLine) → values_in line ≡ [] → IsPart (values_in line) words
+none_part : (words : List (List ℕ)) (line : CommandLine) → start_values_in line ≡ [] → IsPart (start_values_in line) words
 none_part words line none = subst (λ (vs : List (List ℕ)). IsPart vs words) (sym none) (no_part words)
 
 with_part : (work : Task) (files values words : List (List ℕ)) (line : CommandLine) → IsPart values words
-    → line_with work files values ≡ Some line → IsPart (values_in line) words
+    → line_with work files values ≡ Some line → IsPart (start_values_in line) words
 with_part task.Check files values words line part is =
     subst (λ (vs : List (List ℕ)). IsPart vs words)
-    (sym (of_asked check (asked_with files values) values line (λ asked. refl) (asked_values files values) is)) part
+    (sym (of_asked check (asked_with_files files values) values line (λ asked. refl) (asked_values files values) is)) part
 with_part task.Run files values words line part is =
     subst (λ (vs : List (List ℕ)). IsPart vs words)
-    (sym (of_asked session (asked_with files values) values line (λ asked. refl) (asked_values files values) is)) part
+    (sym (of_asked session (asked_with_files files values) values line (λ asked. refl) (asked_values files values) is)) part
 with_part task.Demo files values words line part is =
     none_part words line (of_none demonstration (cells_with files) line (λ cells. refl) is)
 with_part task.Flatten files values words line part is =
-    none_part words line (of_none flattening_of (asked_with files values) line (λ asked. refl) is)
+    none_part words line (of_none flattening_of (asked_with_files files values) line (λ asked. refl) is)
 with_part task.Bisim files values words line part is =
     none_part words line (of_none bisimilarity (compared_with files) line (λ c. refl) is)
 with_part task.Induct files values words line part is =
@@ -101,21 +101,21 @@ where_true true x a is = (refl, is)
 where_true false x a is = absurd (none-some a is)
 
 verb_part : (found : Option Verb) (words : List (List ℕ)) (line : CommandLine) → line_of_verb found words ≡ Some line
-    → IsPart (values_in line) words
+    → IsPart (start_values_in line) words
 verb_part None words line is = absurd (none-some line is)
 verb_part (Some verb) words line is =
     with_part verb.task_ (cut_at_with words).files (cut_at_with words).values words line (cut_part words)
     (where_true (takes_words verb (cut_at_with words)) _ line is).1
 
-line_part : (words : List (List ℕ)) (line : CommandLine) → words_line words ≡ Some line → IsPart (values_in line) words
+line_part : (words : List (List ℕ)) (line : CommandLine) → words_line words ≡ Some line → IsPart (start_values_in line) words
 line_part [] line is = absurd (none-some line is)
-line_part (word ∷ words) line is = behind (values_in line) words word (verb_part (verb_named word verbs) words line is)
+line_part (word ∷ words) line is = behind (start_values_in line) words word (verb_part (verb_named word verbs) words line is)
 
 pub values_within : (words : List (List ℕ)) (line : CommandLine) → command_line words ≡ Some line
-    → IsTrue (are_within (values_in line))
+    → IsTrue (are_within (start_values_in line))
 values_within words line is =
     let found = where_true (are_within words) (words_line words) line is in
-    part_within (values_in line) words (line_part words line found.1) found.0
+    part_within (start_values_in line) words (line_part words line found.1) found.0
 
 -- ---- How many cells a word says
 
@@ -153,16 +153,6 @@ said_next word before none is =
     ap (λ (it : Option ℕ). or_this it (suc before) word) none in
     let same : before + 1 ≡ suc before = add-one before in
     subst (λ (n : ℕ). number_up_to n word ≡ Some n) (sym same)
-    (here ∙ ap (λ (b : Bool). if b then Some (suc before) else None)
-    (ap (λ (n : ℕ). bytes_eq word (decimal n)) (sym same) ∙ is))
-
-pub not_next : (word : List ℕ) (before : ℕ) → number_up_to before word ≡ None → bytes_eq word (decimal (before + 1)) ≡ false
-    → number_up_to (before + 1) word ≡ None
-not_next word before none is =
-    let here : number_up_to (suc before) word ≡ (if bytes_eq word (decimal (suc before)) then Some (suc before) else None) =
-    ap (λ (it : Option ℕ). or_this it (suc before) word) none in
-    let same : before + 1 ≡ suc before = add-one before in
-    subst (λ (n : ℕ). number_up_to n word ≡ None) (sym same)
     (here ∙ ap (λ (b : Bool). if b then Some (suc before) else None)
     (ap (λ (n : ℕ). bytes_eq word (decimal n)) (sym same) ∙ is))
 

@@ -3,7 +3,7 @@ pub use Rattle.spec_acceptance.specs.Acceptance.{Acceptance, IsAccepted, Asked, 
 pub use Rattle.spec_acceptance.specs.Acceptance.{Founds, StartsWithValues, accepted_with, founded_with}
 pub use Rattle.spec_acceptance.specs.AcceptanceLaws.{DataAreWellFormed}
 pub use Rattle.spec_acceptance.specs.AcceptanceOutcomes.{got_from, ComesOfPart, ComesOver}
-pub use Rattle.spec_acceptance.specs.AcceptedView.{asked_for, HoldsAccepted}
+pub use Rattle.spec_acceptance.specs.AcceptedView.{asked_acceptance, HoldsAccepted}
 pub use Rattle.spec_acceptance.specs.Again.{HoldsWithText, IsOverSame, BeginsOver}
 pub use Rattle.spec_acceptance.specs.Book.{Opens, OpensBook}
 pub use Rattle.spec_acceptance.specs.Checks.{ComesToAgreement, FunctionalitiesAgree, Guarded, IsGuardedIn, KeepsSpecification, Disagree}

@@ -3,7 +3,7 @@ use Rattle.std.specs.Prelude.{ℕ, zero, suc, Bool, true, false, not, ◌&&◌, 
 use Rattle.std.specs.Str.{bytes_eq}
 use Rattle.spec_acceptance.specs.HandedOn.{words_of, are_within}
 use Rattle.spec_acceptance.specs.Acceptance.{Asked}
-use Rattle.spec_acceptance.specs.AcceptedView.{asked_for}
+use Rattle.spec_acceptance.specs.AcceptedView.{asked_acceptance}
 use Rattle.command_words.specs.declared.commands.Command.{Command}
 use Rattle.command_words.specs.declared.commands.Command.TheVariants.{Check, Run, Demo, Flatten, Bisim, Induct}
 use Rattle.command_words.specs.declared.commands.Behind.{Behind}
@@ -18,8 +18,8 @@ pub record Compared : Type 0 where
   pub other : List ℕ
   pub pairs : List ℕ
 
-abbrev pub compared : (spec other pairs : List ℕ) → Compared
-compared spec other pairs = record { spec = spec; other = other; pairs = pairs }
+abbrev pub compared_files : (spec other pairs : List ℕ) → Compared
+compared_files spec other pairs = record { spec = spec; other = other; pairs = pairs }
 
 -- the names of a specification and of a certificate of induction
 pub record Induced : Type 0 where
@@ -98,10 +98,10 @@ takes_words verb behind =
 -- ---- What a verb asks for
 
 -- the names of the specification's file and of the order file, if there is one, and the start values
-abbrev pub asked_with : (files values : List (List ℕ)) → Option Asked
-asked_with (spec ∷ []) values = Some (asked_for spec None values)
-asked_with (spec ∷ order ∷ []) values = Some (asked_for spec (Some order) values)
-asked_with files values = None
+abbrev pub asked_with_files : (files values : List (List ℕ)) → Option Asked
+asked_with_files (spec ∷ []) values = Some (asked_acceptance spec None values)
+asked_with_files (spec ∷ order ∷ []) values = Some (asked_acceptance spec (Some order) values)
+asked_with_files files values = None
 
 -- the number up to this one whose decimal form the word is, from 1
 abbrev pub or_this : Option ℕ → ℕ → List ℕ → Option ℕ
@@ -130,7 +130,7 @@ flattening_of asked = flattening asked.spec asked.order
 
 -- the three names, in their order
 abbrev pub compared_with : (files : List (List ℕ)) → Option Compared
-compared_with (spec ∷ other ∷ pairs ∷ []) = Some (compared spec other pairs)
+compared_with (spec ∷ other ∷ pairs ∷ []) = Some (compared_files spec other pairs)
 compared_with files = None
 
 -- the two names, in their order
@@ -140,10 +140,10 @@ induced_with files = None
 
 -- the line of a task with these files and start values
 abbrev pub line_with : Task → (files values : List (List ℕ)) → Option CommandLine
-line_with task.Check files values = option_map check (asked_with files values)
-line_with task.Run files values = option_map session (asked_with files values)
+line_with task.Check files values = option_map check (asked_with_files files values)
+line_with task.Run files values = option_map session (asked_with_files files values)
 line_with task.Demo files values = option_map demonstration (cells_with files)
-line_with task.Flatten files values = option_map flattening_of (asked_with files values)
+line_with task.Flatten files values = option_map flattening_of (asked_with_files files values)
 line_with task.Bisim files values = option_map bisimilarity (compared_with files)
 line_with task.Induct files values = option_map induction (induced_with files)
 
@@ -172,13 +172,13 @@ abbrev pub command_line : List (List ℕ) → Option CommandLine
 command_line words = if are_within words then words_line words else None
 
 -- the start values of a line
-abbrev pub values_in : CommandLine → List (List ℕ)
-values_in (check asked) = asked.values
-values_in (session asked) = asked.values
-values_in (demonstration cells) = []
-values_in (flattening spec order) = []
-values_in (bisimilarity c) = []
-values_in (induction i) = []
+abbrev pub start_values_in : CommandLine → List (List ℕ)
+start_values_in (check asked) = asked.values
+start_values_in (session asked) = asked.values
+start_values_in (demonstration cells) = []
+start_values_in (flattening spec order) = []
+start_values_in (bisimilarity c) = []
+start_values_in (induction i) = []
 
 -- whether a line is that of a demonstration
 abbrev pub is_demonstration : Option CommandLine → Bool
@@ -189,20 +189,20 @@ is_demonstration _ = false
 
 -- what names of files and start values of the code ask for
 abbrev pub asked_by : Files → Asked
-asked_by files = asked_for files.spec.now (option_map (λ name. name.now) files.order) (words_of files.values.now)
+asked_by files = asked_acceptance files.spec.now (option_map (λ name. name.now) files.order) (words_of files.values.now)
 
 -- what a verb of the code is
 abbrev pub verb_of : CodeVerb → Verb
 verb_of verb = verb_row verb.word.now verb.least verb.most verb.takes_values verb.task
 
 -- what a command of the code is as a line
-abbrev pub line_of : Command → CommandLine
-line_of (Check spec order values) = check (asked_for spec.now (option_map (λ name. name.now) order) (words_of values.now))
-line_of (Run spec order values) = session (asked_for spec.now (option_map (λ name. name.now) order) (words_of values.now))
-line_of (Demo cells) = demonstration cells
-line_of (Flatten spec order) = flattening spec.now (option_map (λ name. name.now) order)
-line_of (Bisim spec other pairs) = bisimilarity (compared spec.now other.now pairs.now)
-line_of (Induct spec proofs) = induction (induced spec.now proofs.now)
+abbrev pub command_line_of : Command → CommandLine
+command_line_of (Check spec order values) = check (asked_acceptance spec.now (option_map (λ name. name.now) order) (words_of values.now))
+command_line_of (Run spec order values) = session (asked_acceptance spec.now (option_map (λ name. name.now) order) (words_of values.now))
+command_line_of (Demo cells) = demonstration cells
+command_line_of (Flatten spec order) = flattening spec.now (option_map (λ name. name.now) order)
+command_line_of (Bisim spec other pairs) = bisimilarity (compared_files spec.now other.now pairs.now)
+command_line_of (Induct spec proofs) = induction (induced spec.now proofs.now)
 
 -- the words behind a verb of the code
 abbrev pub behind_by : Behind → WordsBehind

@@ -2,7 +2,7 @@
 
 ghost use Rattle.command_words.specs.Words.{
   asked_by,
-  asked_with,
+  asked_with_files,
   behind_by,
   bisimilarity,
   cells_said,
@@ -16,7 +16,7 @@ ghost use Rattle.command_words.specs.Words.{
   flattening_of,
   induced_with,
   induction,
-  line_of,
+  command_line_of,
   line_of_cut,
   line_with,
   session,
@@ -200,7 +200,7 @@ pub struct Behind<'a> {
 /// at most 1,048,576 bytes together. Takes no memory.
 pub fn parse_command(words: &[String]) -> Option<Command<'_>>
     ensures { MatchOption result (command_line (words_of words.now) ≡ None)
-        (λ command. command_line (words_of words.now) ≡ Some (line_of command)) }
+        (λ command. command_line (words_of words.now) ≡ Some (command_line_of command)) }
 {
     if !are_within_limits(words) {
         return None;
@@ -235,7 +235,7 @@ fn verb_among(word: &str, among: &[Verb]) -> Option<Verb>
 
 // What the verb asks for with the words behind it.
 fn with_verb(verb: Verb, words: &[String]) -> Option<Command<'_>>
-    ensures { option_map line_of result
+    ensures { option_map command_line_of result
         ≡ line_of_cut (verb_of verb) (cut_at_with (words_of words.now)) }
 {
     let behind = behind_verb(words);
@@ -282,7 +282,7 @@ fn takes(verb: Verb, behind: Behind<'_>) -> bool
 
 // What the task asks for with these files and start values.
 fn with_task<'a>(task: Task, files: &'a [String], values: &'a [String]) -> Option<Command<'a>>
-    ensures { option_map line_of result
+    ensures { option_map command_line_of result
         ≡ line_with task (words_of files.now) (words_of values.now) }
 {
     match task {
@@ -297,7 +297,8 @@ fn with_task<'a>(task: Task, files: &'a [String], values: &'a [String]) -> Optio
 
 // The names of files, and the start values.
 fn named_files<'a>(files: &'a [String], values: &'a [String]) -> Option<Files<'a>>
-    ensures { option_map asked_by result ≡ asked_with (words_of files.now) (words_of values.now) }
+    ensures { option_map asked_by result
+        ≡ asked_with_files (words_of files.now) (words_of values.now) }
 {
     match files {
         [spec] => Some(Files {
@@ -316,7 +317,8 @@ fn named_files<'a>(files: &'a [String], values: &'a [String]) -> Option<Files<'a
 
 // The command that reads the files.
 fn checked(files: Option<Files<'_>>) -> Option<Command<'_>>
-    ensures { option_map line_of result ≡ option_map check (option_map asked_by files.entry) }
+    ensures { option_map command_line_of result
+        ≡ option_map check (option_map asked_by files.entry) }
 {
     match files {
         Some(files) => Some(Command::Check {
@@ -330,7 +332,8 @@ fn checked(files: Option<Files<'_>>) -> Option<Command<'_>>
 
 // The command that serves a session of the files.
 fn served(files: Option<Files<'_>>) -> Option<Command<'_>>
-    ensures { option_map line_of result ≡ option_map session (option_map asked_by files.entry) }
+    ensures { option_map command_line_of result
+        ≡ option_map session (option_map asked_by files.entry) }
 {
     match files {
         Some(files) => Some(Command::Run {
@@ -344,7 +347,7 @@ fn served(files: Option<Files<'_>>) -> Option<Command<'_>>
 
 // The demonstration of so many cells.
 fn demonstrated(cells: Option<u32>) -> Option<Command<'static>>
-    ensures { option_map line_of result ≡ option_map demonstration cells }
+    ensures { option_map command_line_of result ≡ option_map demonstration cells }
 {
     match cells {
         Some(cells) => Some(Command::Demo { cells }),
@@ -354,7 +357,7 @@ fn demonstrated(cells: Option<u32>) -> Option<Command<'static>>
 
 // The command that prints the flat text of the files.
 fn flattened(files: Option<Files<'_>>) -> Option<Command<'_>>
-    ensures { option_map line_of result
+    ensures { option_map command_line_of result
         ≡ option_map flattening_of (option_map asked_by files.entry) }
 {
     match files {
@@ -368,7 +371,7 @@ fn flattened(files: Option<Files<'_>>) -> Option<Command<'_>>
 
 // The command that checks a certificate of bisimulation.
 fn compared(files: &[String]) -> Option<Command<'_>>
-    ensures { option_map line_of result
+    ensures { option_map command_line_of result
         ≡ option_map bisimilarity (compared_with (words_of files.now)) }
 {
     match files {
@@ -383,7 +386,7 @@ fn compared(files: &[String]) -> Option<Command<'_>>
 
 // The command that checks a certificate of induction.
 fn induced(files: &[String]) -> Option<Command<'_>>
-    ensures { option_map line_of result
+    ensures { option_map command_line_of result
         ≡ option_map induction (induced_with (words_of files.now)) }
 {
     match files {

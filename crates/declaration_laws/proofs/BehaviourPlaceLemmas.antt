@@ -1,25 +1,25 @@
 -- The places of behaviours in texts.
 use Rattle.std.proofs.Common.{◌≡◌, ℕ, List, [], ◌∷◌, ◌++◌, flat_map, refl, ap, sym, subst, inl, inr}
 use Rattle.std.specs.Prelude.{◌⊎◌, Option, None, true}
-use Rattle.scope_parts.proofs.OrderLemmas.{in_either, both_before}
+use Rattle.scope_parts.proofs.OrderLemmas.{in_either, both_before, in_left as one_left, in_right as one_right}
 use Rattle.lotos_base.specs.Equation.{Place}
 use Rattle.lotos_lexer.specs.declared.tokens.Token.{Token}
 use Rattle.syntax_trees.specs.WrittenEquation.{WrittenPremiss}
 use Rattle.syntax_trees.specs.WrittenBehaviour.{WrittenBehaviour, WrittenOffer, action, inner_action, guard, hide, let_be, choose_value, choose_gate, par_gate}
-use Rattle.syntax_trees.specs.Strength.{PlacedSign, strength_of, joined as with_sign}
+use Rattle.syntax_trees.specs.Strength.{PlacedSign, strength_of, joined_by_sign as with_sign}
 use Rattle.syntax_trees.specs.Grouping.{IsGrouped, alone, split}
 use Rattle.lotos_rows.specs.Words.{Optional, left_out, there}
 use Rattle.lotos_rows.specs.Names.{place_of, spelled}
-use Rattle.lotos_rows.specs.Behaviours.{IsSelection, selection, AreOperands, hiding, letting, choosing_values, choosing_gates, parallel_over_gates, inner_prefix, guarding, acting, offering, last_operand, before_sign, before_first, IsAtom, stopping, exiting, calling, in_brackets, IsBehaviour, grouped_operands}
+use Rattle.lotos_rows.specs.Behaviours.{IsSelection, selection, AreOperands, hiding, letting, choosing_values, choosing_gates, parallel_over_gates, inner_prefix, guarding, acting, offering, last_operand, before_sign, before_first, IsAtom, stopping, exiting, calling, in_brackets, IsBehaviourText, grouped_operands}
 use Rattle.behaviour_semantics.specs.WellFormed.{Every}
-use Rattle.behaviour_semantics.proofs.RaisedDrafts.{every_map}
-use Rattle.behaviour_semantics.proofs.EveryLemmas.{every_front, every_back}
+use Rattle.behaviour_semantics.proofs.EveryLemmas.{every_front, every_back, every_map}
 use Rattle.scope_parts.specs.ScopeFault.{stands_before}
-use Rattle.scope_parts.specs.Order.{IsOneOf, StandWhollyBefore, InTurn, joined}
+use Rattle.scope_parts.specs.Order.{IsOneOfPlaces, StandWhollyBefore, InTurn, joined_places}
 use Rattle.scope_parts.specs.TermPlaces.{name_places, premiss_places}
 use Rattle.scope_parts.specs.PartPlaces.{exit_places, value_places, let_places, variable_places, choice_places, sign_places, SignFollows, offers_places, OffersFollowOn}
 use Rattle.scope_parts.specs.BehaviourPlaces.{test_places, behaviour_places, Follows}
-use Rattle.declaration_laws.proofs.TokenOrder.{At, Rises, Within, AllWithin, rises_front, rises_back, nothing_within, here_within, in_left, in_right, in_rest, both_within, more_within, joined_within, one_left, one_right, before_parts, before_first as before_rest, before_all, before_third, first_before, before_joined, nothing_after, nothing_before, in_front, rises_two, all_in_right}
+use Rattle.scope_parts.proofs.PartsTell.{before_all as before_joined}
+use Rattle.declaration_laws.proofs.TokenOrder.{At, Rises, Within, AllWithin, rises_front, rises_back, nothing_within, here_within, in_left, in_right, in_rest, both_within, more_within, joined_within, before_parts, before_first as before_rest, before_all, before_third, first_before, nothing_after, nothing_before, in_front, rises_two, all_in_right}
 use Rattle.declaration_laws.proofs.TermPlaceLemmas.{optional_gates_in, optional_gates_rise, values_in, values_turn, premiss_in}
 use Rattle.declaration_laws.proofs.PartPlaceLemmas.{variables_in, variables_follow, exit_values_in, exit_values_turn, let_in, let_follows, offers_in, offers_follow_on, choices_in, choices_follow, parallel_sign_in, parallel_sign_follows, sign_in, sign_follows}
 
@@ -72,18 +72,20 @@ lined_both (b ∷ bs) cs (s ∷ first) sign second one =
 
 -- ---- lists of parts
 
-joined_left : (p : Place) (pss qss : List (List Place)) → IsOneOf p (joined pss) → IsOneOf p (joined (pss ++ qss))
+joined_left : (p : Place) (pss qss : List (List Place)) → IsOneOfPlaces p (joined_places pss) → IsOneOfPlaces p (joined_places (pss ++ qss))
 joined_left p [] qss at = absurd at
-joined_left p (ps ∷ pss) qss at = go (in_either p ps (joined pss) at) (λ later. joined_left p pss qss later)
+joined_left p (ps ∷ pss) qss at = go (in_either p ps (joined_places pss) at) (λ later. joined_left p pss qss later)
   where
-    go : IsOneOf p ps ⊎ IsOneOf p (joined pss) → (IsOneOf p (joined pss) → IsOneOf p (joined (pss ++ qss)))
-        → IsOneOf p (ps ++ joined (pss ++ qss))
-    go (inl here) more = one_left p ps (joined (pss ++ qss)) here
-    go (inr later) more = one_right p ps (joined (pss ++ qss)) (more later)
+    go : IsOneOfPlaces p ps ⊎ IsOneOfPlaces p (joined_places pss)
+        → (IsOneOfPlaces p (joined_places pss) → IsOneOfPlaces p (joined_places (pss ++ qss)))
+        → IsOneOfPlaces p (ps ++ joined_places (pss ++ qss))
+    go (inl here) more = one_left p ps (joined_places (pss ++ qss)) here
+    go (inr later) more = one_right p ps (joined_places (pss ++ qss)) (more later)
 
-joined_right : (p : Place) (pss qss : List (List Place)) → IsOneOf p (joined qss) → IsOneOf p (joined (pss ++ qss))
+joined_right : (p : Place) (pss qss : List (List Place)) → IsOneOfPlaces p (joined_places qss)
+    → IsOneOfPlaces p (joined_places (pss ++ qss))
 joined_right p [] qss at = at
-joined_right p (ps ∷ pss) qss at = one_right p ps (joined (pss ++ qss)) (joined_right p pss qss at)
+joined_right p (ps ∷ pss) qss at = one_right p ps (joined_places (pss ++ qss)) (joined_right p pss qss at)
 
 turn_front : (pss qss : List (List Place)) → InTurn (pss ++ qss) → InTurn pss
 turn_front [] qss h = tt
@@ -93,33 +95,33 @@ turn_back : (pss qss : List (List Place)) → InTurn (pss ++ qss) → InTurn qss
 turn_back [] qss h = h
 turn_back (ps ∷ pss) qss h = turn_back pss qss h.1
 
-turn_across : (pss qss : List (List Place)) → InTurn (pss ++ qss) → StandWhollyBefore (joined pss) (joined qss)
+turn_across : (pss qss : List (List Place)) → InTurn (pss ++ qss) → StandWhollyBefore (joined_places pss) (joined_places qss)
 turn_across [] qss h = λ p q here later. absurd here
 turn_across (ps ∷ pss) qss h =
-    both_before ps (joined pss) (joined qss) (before_joined ps qss (every_back (StandWhollyBefore ps) pss qss h.0))
+    both_before ps (joined_places pss) (joined_places qss) (before_joined ps qss (every_back (StandWhollyBefore ps) pss qss h.0))
     (turn_across pss qss h.1)
 
 -- ---- grouping
 
 grouped_part : {bs : List WrittenBehaviour} {signs : List PlacedSign} {b : WrittenBehaviour} → IsGrouped strength_of with_sign bs signs b
-    → (p : Place) → IsOneOf p (behaviour_places b) → IsOneOf p (joined (lined bs signs))
+    → (p : Place) → IsOneOfPlaces p (behaviour_places b) → IsOneOfPlaces p (joined_places (lined bs signs))
 grouped_part (alone {operand = b}) p at = one_left p (behaviour_places b) [] at
 grouped_part (split {operands = bs} {others = cs} {before = first} {behind = second} {sign = sign} {left = l}
     {right = r} h k left right) p at =
-    subst (λ (pss : List (List Place)). IsOneOf p (joined pss)) (sym (lined_both bs cs first sign second (fit_grouped left)))
+    subst (λ (pss : List (List Place)). IsOneOfPlaces p (joined_places pss)) (sym (lined_both bs cs first sign second (fit_grouped left)))
     (go (in_either p (behaviour_places l) (sign_places sign.sign ++ behaviour_places r) at) (λ here. grouped_part left p here)
     (λ here. grouped_part right p here))
   where
-    signed : IsOneOf p (sign_places sign.sign) ⊎ IsOneOf p (behaviour_places r)
-        → (IsOneOf p (behaviour_places r) → IsOneOf p (joined (lined cs second)))
-        → IsOneOf p (sign_places sign.sign ++ joined (lined cs second))
-    signed (inl here) second_part = one_left p (sign_places sign.sign) (joined (lined cs second)) here
-    signed (inr later) second_part = one_right p (sign_places sign.sign) (joined (lined cs second)) (second_part later)
+    signed : IsOneOfPlaces p (sign_places sign.sign) ⊎ IsOneOfPlaces p (behaviour_places r)
+        → (IsOneOfPlaces p (behaviour_places r) → IsOneOfPlaces p (joined_places (lined cs second)))
+        → IsOneOfPlaces p (sign_places sign.sign ++ joined_places (lined cs second))
+    signed (inl here) second_part = one_left p (sign_places sign.sign) (joined_places (lined cs second)) here
+    signed (inr later) second_part = one_right p (sign_places sign.sign) (joined_places (lined cs second)) (second_part later)
 
-    go : IsOneOf p (behaviour_places l) ⊎ IsOneOf p (sign_places sign.sign ++ behaviour_places r)
-        → (IsOneOf p (behaviour_places l) → IsOneOf p (joined (lined bs first)))
-        → (IsOneOf p (behaviour_places r) → IsOneOf p (joined (lined cs second)))
-        → IsOneOf p (joined (lined bs first ++ (sign_places sign.sign ∷ lined cs second)))
+    go : IsOneOfPlaces p (behaviour_places l) ⊎ IsOneOfPlaces p (sign_places sign.sign ++ behaviour_places r)
+        → (IsOneOfPlaces p (behaviour_places l) → IsOneOfPlaces p (joined_places (lined bs first)))
+        → (IsOneOfPlaces p (behaviour_places r) → IsOneOfPlaces p (joined_places (lined cs second)))
+        → IsOneOfPlaces p (joined_places (lined bs first ++ (sign_places sign.sign ∷ lined cs second)))
     go (inl here) first_part second_part = joined_left p (lined bs first) (sign_places sign.sign ∷ lined cs second) (first_part here)
     go (inr later) first_part second_part = joined_right p (lined bs first) (sign_places sign.sign ∷ lined cs second)
         (signed (in_either p (sign_places sign.sign) (behaviour_places r) later) second_part)
@@ -138,9 +140,10 @@ grouped_follows (split {operands = bs} {others = cs} {before = first} {behind = 
     let across = turn_across (lined bs first) (sign_places sign.sign ∷ lined cs second) turns in
     let signs = every_back SignOf first (sign ∷ second) all in (
       three_turn (behaviour_places l) (sign_places sign.sign) (behaviour_places r)
-          (λ p q here later. across p q (grouped_part left p here) (one_left q (sign_places sign.sign) (joined (lined cs second)) later))
           (λ p q here later. across p q (grouped_part left p here)
-          (one_right q (sign_places sign.sign) (joined (lined cs second)) (grouped_part right q later)))
+          (one_left q (sign_places sign.sign) (joined_places (lined cs second)) later))
+          (λ p q here later. across p q (grouped_part left p here)
+          (one_right q (sign_places sign.sign) (joined_places (lined cs second)) (grouped_part right q later)))
           (λ p q here later. before_joined (sign_places sign.sign) (lined cs second) back.0 p q here (grouped_part right q later)),
       signs.0,
       grouped_follows left (turn_front (lined bs first) (sign_places sign.sign ∷ lined cs second) turns) (every_front Follows bs cs each)
@@ -152,7 +155,7 @@ grouped_follows (split {operands = bs} {others = cs} {before = first} {behind = 
 
 -- All places of the second behaviour are among these and those of the first one.
 abbrev Adds : List Place → WrittenBehaviour → WrittenBehaviour → Type 0
-Adds extra b c = (p : Place) → IsOneOf p (behaviour_places c) → IsOneOf p extra ⊎ IsOneOf p (behaviour_places b)
+Adds extra b c = (p : Place) → IsOneOfPlaces p (behaviour_places c) → IsOneOfPlaces p extra ⊎ IsOneOfPlaces p (behaviour_places b)
 
 prefixed_in : (prefix : WrittenBehaviour → WrittenBehaviour) (extra : List Place) (bs : List WrittenBehaviour) (signs : List PlacedSign)
     (tokens rest : List Token) → ((b : WrittenBehaviour) → Adds extra b (prefix b)) → Within extra tokens
@@ -164,7 +167,7 @@ prefixed_in prefix extra (b ∷ bs) signs tokens rest adds one lift all = (
   every_map (λ (ps : List Place). Within ps rest) (λ (ps : List Place). Within ps tokens) lift (behind (lined bs) signs) all.1,
 )
   where
-    go : (p : Place) → IsOneOf p extra ⊎ IsOneOf p (behaviour_places b) → At p tokens
+    go : (p : Place) → IsOneOfPlaces p extra ⊎ IsOneOfPlaces p (behaviour_places b) → At p tokens
     go p (inl here) = one p here
     go p (inr later) = lift (behaviour_places b) all.0 p later
 
@@ -183,8 +186,8 @@ prefixed_turn prefix extra (b ∷ bs) signs rest adds after all turn = (
   turn.1,
 )
   where
-    go : (qs : List Place) → Within qs rest → StandWhollyBefore (behaviour_places b) qs → (p q : Place) → IsOneOf q qs
-        → IsOneOf p extra ⊎ IsOneOf p (behaviour_places b) → stands_before p q ≡ true
+    go : (qs : List Place) → Within qs rest → StandWhollyBefore (behaviour_places b) qs → (p q : Place) → IsOneOfPlaces q qs
+        → IsOneOfPlaces p extra ⊎ IsOneOfPlaces p (behaviour_places b) → stands_before p q ≡ true
     go qs within before p q later (inl here) = after qs within p q here later
     go qs within before p q later (inr here) = before p q here later
 
@@ -225,13 +228,13 @@ action_adds : (place : Place) (gate : List ℕ) (offers : List WrittenOffer) (te
 action_adds place gate offers test b p (inl same) = inl (inl same)
 action_adds place gate offers test b p (inr at) = go (in_either p (offers_places offers) (test_places test ++ behaviour_places b) at)
   where
-    tests : IsOneOf p (test_places test) ⊎ IsOneOf p (behaviour_places b)
-        → IsOneOf p (place ∷ (offers_places offers ++ test_places test)) ⊎ IsOneOf p (behaviour_places b)
+    tests : IsOneOfPlaces p (test_places test) ⊎ IsOneOfPlaces p (behaviour_places b)
+        → IsOneOfPlaces p (place ∷ (offers_places offers ++ test_places test)) ⊎ IsOneOfPlaces p (behaviour_places b)
     tests (inl here) = inl (inr (one_right p (offers_places offers) (test_places test) here))
     tests (inr later) = inr later
 
-    go : IsOneOf p (offers_places offers) ⊎ IsOneOf p (test_places test ++ behaviour_places b)
-        → IsOneOf p (place ∷ (offers_places offers ++ test_places test)) ⊎ IsOneOf p (behaviour_places b)
+    go : IsOneOfPlaces p (offers_places offers) ⊎ IsOneOfPlaces p (test_places test ++ behaviour_places b)
+        → IsOneOfPlaces p (place ∷ (offers_places offers ++ test_places test)) ⊎ IsOneOfPlaces p (behaviour_places b)
     go (inl here) = inl (inr (one_left p (offers_places offers) (test_places test) here))
     go (inr later) = tests (in_either p (test_places test) (behaviour_places b) later)
 
@@ -302,21 +305,21 @@ offering_line text gate semicolon fs os us ts offers test bs signs h offered fol
         (both_before (offers_places offers) (test_places test) qs (offers_rest qs within) (test_rest qs within))
 
 mutual
-  pub behaviour_in : {text : List ℕ} {tokens : List Token} {b : WrittenBehaviour} → IsBehaviour text tokens b
+  pub behaviour_in : {text : List ℕ} {tokens : List Token} {b : WrittenBehaviour} → IsBehaviourText text tokens b
       → Within (behaviour_places b) tokens
   behaviour_in {tokens = tokens} (grouped_operands {operands = bs} {signs = signs} are grouped) p at =
       joined_within (lined bs signs) tokens (operands_in are) p (grouped_part grouped p at)
 
   atom_in : {text : List ℕ} {tokens : List Token} {b : WrittenBehaviour} → IsAtom text tokens b → Within (behaviour_places b) tokens
   atom_in (stopping {word = word} is) = nothing_within (word ∷ [])
-  atom_in (exiting {word = word} {tokens = ts} {values = values} is are) = in_rest (joined (exit_places values)) word ts
+  atom_in (exiting {word = word} {tokens = ts} {values = values} is are) = in_rest (joined_places (exit_places values)) word ts
       (exit_values_in are)
   atom_in (calling {name = name} {gate_tokens = gs} {tokens = ts} {gates = gates} {values = values} is gates_are values_are) =
-      more_within _ (name_places gates ++ joined (value_places values)) (name ∷ (gs ++ ts)) (here_within name (gs ++ ts))
-      (in_rest (name_places gates ++ joined (value_places values)) name (gs ++ ts)
-      (both_within (name_places gates) (joined (value_places values)) (gs ++ ts)
+      more_within _ (name_places gates ++ joined_places (value_places values)) (name ∷ (gs ++ ts)) (here_within name (gs ++ ts))
+      (in_rest (name_places gates ++ joined_places (value_places values)) name (gs ++ ts)
+      (both_within (name_places gates) (joined_places (value_places values)) (gs ++ ts)
       (in_left (name_places gates) gs ts (optional_gates_in gates_are))
-      (in_right (joined (value_places values)) gs ts (joined_within (value_places values) ts (values_in values_are)))))
+      (in_right (joined_places (value_places values)) gs ts (joined_within (value_places values) ts (values_in values_are)))))
   atom_in (in_brackets {left = left} {right = right} {tokens = ts} {inside = b} left_is is right_is) =
       in_rest (behaviour_places b) left (ts ++ right ∷ []) (in_left (behaviour_places b) ts (right ∷ []) (behaviour_in is))
 
@@ -404,7 +407,7 @@ mutual
       )
 
 mutual
-  pub behaviour_follows : {text : List ℕ} {tokens : List Token} {b : WrittenBehaviour} → IsBehaviour text tokens b → Rises tokens
+  pub behaviour_follows : {text : List ℕ} {tokens : List Token} {b : WrittenBehaviour} → IsBehaviourText text tokens b → Rises tokens
       → Follows b
   behaviour_follows (grouped_operands are grouped) h =
       let line = operands_line are h in grouped_follows grouped line.turn line.each line.between
@@ -413,11 +416,11 @@ mutual
   atom_follows (stopping is) h = tt
   atom_follows (exiting is are) h = exit_values_turn are h.1
   atom_follows (calling {name = name} {gate_tokens = gs} {tokens = ts} {gates = gates} {values = values} is gates_are values_are) h = (
-    three_turn (place_of name ∷ []) (name_places gates) (joined (value_places values))
+    three_turn (place_of name ∷ []) (name_places gates) (joined_places (value_places values))
         (before_rest name (name_places gates) (gs ++ ts) h (in_left (name_places gates) gs ts (optional_gates_in gates_are)))
-        (before_rest name (joined (value_places values)) (gs ++ ts) h
-        (in_right (joined (value_places values)) gs ts (joined_within (value_places values) ts (values_in values_are))))
-        (before_parts (name_places gates) (joined (value_places values)) gs ts h.1 (optional_gates_in gates_are)
+        (before_rest name (joined_places (value_places values)) (gs ++ ts) h
+        (in_right (joined_places (value_places values)) gs ts (joined_within (value_places values) ts (values_in values_are))))
+        (before_parts (name_places gates) (joined_places (value_places values)) gs ts h.1 (optional_gates_in gates_are)
         (joined_within (value_places values) ts (values_in values_are))),
     optional_gates_rise gates_are (rises_front gs ts h.1),
     values_turn values_are (rises_back gs ts h.1),

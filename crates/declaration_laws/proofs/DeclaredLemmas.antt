@@ -9,6 +9,7 @@ use Rattle.lotos_base.specs.Signature.{Signature}
 use Rattle.lotos_base.specs.Equation.{Variable}
 use Rattle.lotos_base.specs.Substitution.{is_listed}
 use Rattle.lotos_base.specs.WrittenTerm.{PlacedName}
+use Rattle.lotos_base.proofs.Members.{from_front}
 use Rattle.syntax_trees.specs.WrittenBehaviour.{WrittenBehaviour}
 use Rattle.syntax_trees.specs.WrittenDefinition.{WrittenHeading, WrittenInner, WrittenInners, inner_item, process, no_inner, inner_then, inners_of, WrittenSpecification}
 use Rattle.behaviour_semantics.specs.Behaviour.{Behaviour, Process}
@@ -16,14 +17,15 @@ use Rattle.behaviour_semantics.specs.WellFormed.{Every, IsBehaviour, IsDefinitio
 use Rattle.behaviour_semantics.proofs.EveryLemmas.{every_front, every_back}
 use Rattle.scope_parts.specs.Resolution.{Resolution, resolved, faulty, and_then}
 use Rattle.scope_parts.specs.Scope.{Binding, Callable, bound_to, bind, bind_all, is_bound, double_from, first_double}
-use Rattle.scope_parts.specs.Numbering.{Numbers, spelled, gates_in, inners_gates}
+use Rattle.scope_parts.specs.Numbering.{Numbers, spelled_names, gates_in, inners_gates}
 use Rattle.scope_parts.specs.Sorts.{variables_at, functionality_at}
 use Rattle.scope_parts.specs.Behaviours.{numbers_from}
 use Rattle.scope_parts.specs.Definitions.{Heading, formal_gates, heading_at, DefinitionIs, InnerIs, InnersAre, specification_with}
+use Rattle.scope_parts.proofs.FormedLists.{same_resolved}
 use Rattle.declaration_laws.specs.VisibleGates.{IsOneOf, UsesOnly, UsesFormals}
 use Rattle.declaration_laws.specs.DeclaredGates.{HasDeclaredGates, TextsHaveDeclaredGates}
 use Rattle.declaration_laws.proofs.GateLemmas.{wider}
-use Rattle.declaration_laws.proofs.ScopeLemmas.{HasNumber, one_value, beside_there, declared_or_there, behaviour_uses}
+use Rattle.declaration_laws.proofs.ScopeLemmas.{HasNumber, declared_or_there, behaviour_uses, beside_there}
 
 -- ---- Headings
 
@@ -46,15 +48,15 @@ heading_fine signature numbers heading found is =
         let parts = beside_there (first_double heading.gates) (resolved (numbers_from numbers.gate heading.gates)) gates (sym first) in
         record {
           gates =
-              ap (λ (h : Heading). h.gates) (one_value found (record { gates = gates; parameters = parameters; exit = exit }) is)
-              ∙ one_value gates (numbers_from numbers.gate heading.gates) parts.1;
+              ap (λ (h : Heading). h.gates) (same_resolved found (record { gates = gates; parameters = parameters; exit = exit }) is)
+              ∙ same_resolved gates (numbers_from numbers.gate heading.gates) parts.1;
           distinct = parts.0;
         }
     by (resolved gates) first (resolved parameters) (faulty fault) is = absurd (cc is)
     by (resolved gates) first (faulty fault) third is = absurd (cc is)
     by (faulty fault) first second third is = absurd (cc is)
 
-spelled_long : (names : List PlacedName) → length names ≡ length (spelled names)
+spelled_long : (names : List PlacedName) → length names ≡ length (spelled_names names)
 spelled_long [] = refl
 spelled_long (name ∷ names) = ap suc (spelled_long names)
 
@@ -70,9 +72,10 @@ module _ (signature : Signature) (names : ℕ) (processes : List Process) where
       let uses = behaviour_uses processes signature names body _ _ is.2.0 is.2.1 variables
       (subst (λ (d : Heading × Behaviour). IsBehaviour signature names processes variables d.1) is.2.2 well) in
       subst (λ (d : Heading × Behaviour). UsesOnly (IsOneOf d.0.gates) processes d.1) (sym is.2.2)
-      (wider processes is.2.0 (HasNumber (bind_all (spelled heading.gates) numbers.gate [])) (IsOneOf is.0.gates)
+      (wider processes is.2.0 (HasNumber (bind_all (spelled_names heading.gates) numbers.gate [])) (IsOneOf is.0.gates)
       (λ g there. subst (λ (gates : List ℕ). IsOneOf gates g) (sym fine.gates)
-      (declared g (declared_or_there (spelled heading.gates) heading.gates numbers.gate [] g (spelled_long heading.gates) there))) uses)
+      (declared g (declared_or_there (spelled_names heading.gates) heading.gates numbers.gate [] g (spelled_long heading.gates) there)))
+      uses)
     where
       declared : (g : ℕ) → ⊥ ⊎ IsOneOf (numbers_from numbers.gate heading.gates) g → IsOneOf (numbers_from numbers.gate heading.gates) g
       declared g (inl never) = absurd never
@@ -92,7 +95,7 @@ module _ (signature : Signature) (names : ℕ) (processes : List Process) where
         → InnerIs signature visible before numbers inner (resolved found) → Every IsWellProcess found
         → Every (UsesFormals processes) found
     inner_uses (inner_item item) visible before numbers found is wells =
-        subst (Every (UsesFormals processes)) (sym (one_value found [] is)) tt
+        subst (Every (UsesFormals processes)) (sym (same_resolved found [] is)) tt
     inner_uses (process heading body inner) visible before numbers found is wells =
         let well = subst (Every IsWellProcess) is.2.2.2 wells in
         subst (Every (UsesFormals processes)) (sym is.2.2.2) (
@@ -104,7 +107,7 @@ module _ (signature : Signature) (names : ℕ) (processes : List Process) where
         → InnersAre signature visible before numbers inners (resolved found) → Every IsWellProcess found
         → Every (UsesFormals processes) found
     inners_use no_inner visible before numbers found is wells =
-        subst (Every (UsesFormals processes)) (sym (one_value found [] is)) tt
+        subst (Every (UsesFormals processes)) (sym (same_resolved found [] is)) tt
     inners_use (inner_then inner others) visible before numbers found is wells =
         let well = subst (Every IsWellProcess) is.2.2 wells in
         subst (Every (UsesFormals processes)) (sym is.2.2)
@@ -124,18 +127,13 @@ listed_below (x ∷ xs) next g listed = by (nat_eq next g) refl listed (λ later
     by true same listed later = let e = eqb-true next g same in (omega (arith, e), omega (arith, e))
     by false same listed later = let h = later listed in (omega (arith, h.0), omega (arith, h.1))
 
-get_front : {A : Type 0} (xs ys : List A) (i : ℕ) (x : A) → i < length xs → slice_get (xs ++ ys) i ≡ Some x → slice_get xs i ≡ Some x
-get_front [] ys i x less is = absurd (omega (arith, less))
-get_front (y ∷ xs) ys zero x less is = is
-get_front (y ∷ xs) ys (suc i) x less is = get_front xs ys i x (let l = less in omega (arith, l)) is
-
 not_some : (found : Option ℕ) → is_some found ≡ false → found ≡ None
 not_some None none = refl
 not_some (Some n) none = absurd (cc none)
 
 -- a name that no earlier one is
 not_bound : (names : List PlacedName) (before : List Binding) (k : ℕ) (name : List ℕ) → double_from before names ≡ None
-    → slice_get (spelled names) k ≡ Some name → bound_to before (folded name) ≡ None
+    → slice_get (spelled_names names) k ≡ Some name → bound_to before (folded name) ≡ None
 not_bound [] before k name none found = absurd (cc found)
 not_bound (first ∷ names) before k name none found =
     by (is_bound before first.name) refl none k found (λ l rest there. not_bound names (bind first.name 0 before) l name rest there)
@@ -146,8 +144,8 @@ not_bound (first ∷ names) before k name none found =
 
     by : (bound : Bool) → is_bound before first.name ≡ bound
         → (if bound then Some first else double_from (bind first.name 0 before) names) ≡ None → (k : ℕ)
-        → slice_get (spelled (first ∷ names)) k ≡ Some name
-        → ((l : ℕ) → double_from (bind first.name 0 before) names ≡ None → slice_get (spelled names) l ≡ Some name
+        → slice_get (spelled_names (first ∷ names)) k ≡ Some name
+        → ((l : ℕ) → double_from (bind first.name 0 before) names ≡ None → slice_get (spelled_names names) l ≡ Some name
         → bound_to (bind first.name 0 before) (folded name) ≡ None)
         → bound_to before (folded name) ≡ None
     by true bound none k found later = absurd (cc none)
@@ -157,7 +155,8 @@ not_bound (first ∷ names) before k name none found =
     by false bound none (suc k) found later = past (bytes_eq (folded name) (folded first.name)) (later k none found)
 
 one_there : (first : PlacedName) (names : List PlacedName) (before : List Binding) (k : ℕ) (name : List ℕ)
-    → double_from (bind first.name 0 before) names ≡ None → slice_get (spelled names) k ≡ Some name → folded name ≡ folded first.name → ⊥
+    → double_from (bind first.name 0 before) names ≡ None → slice_get (spelled_names names) k ≡ Some name
+    → folded name ≡ folded first.name → ⊥
 one_there first names before k name none found same =
     let bound = not_bound names (bind first.name 0 before) k name none found in
     let yes : bytes_eq (folded name) (folded first.name) ≡ true = (bytes_eq-Decides (folded name) (folded first.name)).1 same in
@@ -166,16 +165,16 @@ one_there first names before k name none found same =
     cc there
 
 distinct_from : (names : List PlacedName) (before : List Binding) (i j : ℕ) (one other : List ℕ) → double_from before names ≡ None
-    → slice_get (spelled names) i ≡ Some one → slice_get (spelled names) j ≡ Some other → folded one ≡ folded other → i ≡ j
+    → slice_get (spelled_names names) i ≡ Some one → slice_get (spelled_names names) j ≡ Some other → folded one ≡ folded other → i ≡ j
 distinct_from [] before i j one other none at also same = absurd (cc at)
 distinct_from (first ∷ names) before i j one other none at also same =
     by (is_bound before first.name) none i j at also
     (λ k l rest here there. distinct_from names (bind first.name 0 before) k l one other rest here there same)
   where
     by : (bound : Bool) → (if bound then Some first else double_from (bind first.name 0 before) names) ≡ None → (i j : ℕ)
-        → slice_get (spelled (first ∷ names)) i ≡ Some one → slice_get (spelled (first ∷ names)) j ≡ Some other
-        → ((k l : ℕ) → double_from (bind first.name 0 before) names ≡ None → slice_get (spelled names) k ≡ Some one
-        → slice_get (spelled names) l ≡ Some other → k ≡ l)
+        → slice_get (spelled_names (first ∷ names)) i ≡ Some one → slice_get (spelled_names (first ∷ names)) j ≡ Some other
+        → ((k l : ℕ) → double_from (bind first.name 0 before) names ≡ None → slice_get (spelled_names names) k ≡ Some one
+        → slice_get (spelled_names names) l ≡ Some other → k ≡ l)
         → i ≡ j
     by true none i j at also later = absurd (cc none)
     by false none zero zero at also later = refl
@@ -190,13 +189,13 @@ distinct_from (first ∷ names) before i j one other none at also same =
 
 names_distinct : (heading : WrittenHeading) (more : List (List ℕ)) (gates : List ℕ) → gates ≡ numbers_from 0 heading.gates
     → first_double heading.gates ≡ None → (i j : ℕ) (one other : List ℕ) → IsOneOf gates i → IsOneOf gates j
-    → slice_get (spelled heading.gates ++ more) i ≡ Some one → slice_get (spelled heading.gates ++ more) j ≡ Some other
+    → slice_get (spelled_names heading.gates ++ more) i ≡ Some one → slice_get (spelled_names heading.gates ++ more) j ≡ Some other
     → AreOneName one other → i ≡ j
 names_distinct heading more gates are none i j one other first second at also same =
-    distinct_from heading.gates [] i j one other none (get_front (spelled heading.gates) more i one (below i first) at)
-    (get_front (spelled heading.gates) more j other (below j second) also) same
+    distinct_from heading.gates [] i j one other none (from_front (spelled_names heading.gates) more i one (below i first) at)
+    (from_front (spelled_names heading.gates) more j other (below j second) also) same
   where
-    below : (k : ℕ) → IsOneOf gates k → k < length (spelled heading.gates)
+    below : (k : ℕ) → IsOneOf gates k → k < length (spelled_names heading.gates)
     below k listed =
         let h = listed_below heading.gates 0 k (subst (λ (it : List ℕ). IsOneOf it k) are listed) in
         let long = spelled_long heading.gates in omega (arith, h.1, long)
@@ -228,9 +227,9 @@ made signature text definition processes visible before numbers behind first is 
           names_distinct text.heading (gates_in text.body ++ inners_gates (inners_of text.inner)) definition.0.gates gates fine.distinct
           i j one other listed also
           (subst (λ (all : List (List ℕ)). slice_get all i ≡ Some one)
-          (append_assoc (spelled text.heading.gates) (gates_in text.body) (inners_gates (inners_of text.inner))) at)
+          (append_assoc (spelled_names text.heading.gates) (gates_in text.body) (inners_gates (inners_of text.inner))) at)
           (subst (λ (all : List (List ℕ)). slice_get all j ≡ Some other)
-          (append_assoc (spelled text.heading.gates) (gates_in text.body) (inners_gates (inners_of text.inner))) there) same;
+          (append_assoc (spelled_names text.heading.gates) (gates_in text.body) (inners_gates (inners_of text.inner))) there) same;
     }
 
 pub texts_have_declared_gates : TextsHaveDeclaredGates

@@ -1,5 +1,5 @@
 -- What is declared part by part follows on, each part with the next numbers.
-use Rattle.std.proofs.Common.{◌≡◌, ℕ, zero, suc, ◌+◌, List, [], ◌∷◌, ◌++◌, map, length, slice_get, Option, None, Some, refl, ap, sym, ◌∙◌, subst, arith}
+use Rattle.std.proofs.Common.{◌≡◌, ℕ, zero, suc, ◌+◌, List, [], ◌∷◌, ◌++◌, map, length, slice_get, Some, refl, ap, sym, ◌∙◌, subst, arith}
 use Rattle.std.proofs.lemmas.Option.{same_Some}
 use Rattle.lotos_base.specs.Signature.{Signature}
 use Rattle.lotos_base.specs.Equation.{Variable}
@@ -8,13 +8,14 @@ use Rattle.lotos_base.specs.WrittenTerm.{PlacedName, WrittenTerm}
 use Rattle.syntax_trees.specs.WrittenVariable.{WrittenVariable}
 use Rattle.syntax_trees.specs.WrittenBehaviour.{WrittenSign, WrittenGateChoice, WrittenOffer, offer_value, offer_variable}
 use Rattle.behaviour_semantics.specs.Behaviour.{Behaviour, SynchronisationSet, Offer, give, ask, asked_variables, let_variables}
-use Rattle.scope_parts.specs.Resolution.{Resolution, resolved, faulty, and_then, put_in_front, beside}
+use Rattle.scope_parts.specs.Resolution.{Resolution, resolved, faulty, and_then, put_in_front}
 use Rattle.scope_parts.specs.Scope.{Binding, bind, gates_at, first_double}
-use Rattle.scope_parts.specs.Numbering.{spelled, asked_for, choice_names}
+use Rattle.scope_parts.specs.Numbering.{spelled_names, asked_for, choice_names}
 use Rattle.scope_parts.specs.Sorts.{sort_at, variable_at, sorted_variables, variables_at, placed_variables}
 use Rattle.scope_parts.specs.Terms.{LetIs, BindingsAre, OffersAre, OffersFollow, let_names}
 use Rattle.scope_parts.specs.Choices.{GateChoice, ParChoice, choices_follow, signs_follow, sign_at, with_signs, placed_choices, choices_at, par_choices_at, under_gates, under_par, under_values}
 use Rattle.scope_parts.specs.Behaviours.{numbers_from}
+use Rattle.scope_parts.proofs.FormedLists.{same_resolved, beside_of}
 use Rattle.declaration_laws.specs.DeclarationOrder.{gates_bound, variables_bound, Follow, HasGateNumber, HasVariableNumber}
 
 -- ---- Lists that follow one another
@@ -60,30 +61,15 @@ names_follow next (name ∷ names) =
     let one : suc next ≡ next + 1 = omega arith in
     (refl, subst (λ (n : ℕ). Gates (suc next) names (numbers_from n names)) one (names_follow (suc next) names))
 
-pub spelled_follow : (next : ℕ) (names : List PlacedName) → Gates next (spelled names) (numbers_from next names)
+pub spelled_follow : (next : ℕ) (names : List PlacedName) → Gates next (spelled_names names) (numbers_from next names)
 spelled_follow next [] = tt
 spelled_follow next (name ∷ names) =
     let one : suc next ≡ next + 1 = omega arith in
-    (refl, subst (λ (n : ℕ). Gates (suc next) (spelled names) (numbers_from n names)) one (spelled_follow (suc next) names))
+    (refl, subst (λ (n : ℕ). Gates (suc next) (spelled_names names) (numbers_from n names)) one (spelled_follow (suc next) names))
 
-pub spelled_long : (names : List PlacedName) → length names ≡ length (spelled names)
+pub spelled_long : (names : List PlacedName) → length names ≡ length (spelled_names names)
 spelled_long [] = refl
 spelled_long (name ∷ names) = ap suc (spelled_long names)
-
--- ---- Answers of questions
-
-abbrev pub value_in : {A : Type 0} → A → Resolution A → A
-value_in other (resolved x) = x
-value_in other (faulty fault) = other
-
-pub one_value : {A : Type 0} (x y : A) → resolved x ≡ resolved y → x ≡ y
-one_value x y same = ap (value_in x) same
-
-pub beside_there : {A : Type 0} (double : Option PlacedName) (others : Resolution A) (x : A) → resolved x ≡ beside double others
-    → resolved x ≡ others
-beside_there None others x is = is
-beside_there (Some double) (resolved y) x is = absurd (cc is)
-beside_there (Some double) (faulty fault) x is = absurd (cc is)
 
 -- ---- Variables
 
@@ -98,13 +84,13 @@ variable_made signature number w x is = by (sort_found signature w) is
         → resolved x ≡ and_then sort (λ sort. resolved (record { name = w.name; number = number; sort = sort }))
         → HasVariableNumber number w x
     by (resolved sort) is =
-        let same = one_value x (record { name = w.name; number = number; sort = sort }) is in
+        let same = same_resolved x (record { name = w.name; number = number; sort = sort }) is in
         (ap (λ (v : Variable). v.number) same, ap (λ (v : Variable). v.name) same)
     by (faulty fault) is = absurd (cc is)
 
 pub variables_made : (signature : Signature) (next : ℕ) (ws : List WrittenVariable) (xs : List Variable)
     → resolved xs ≡ sorted_variables signature next ws → Variables next ws xs
-variables_made signature next [] xs is = subst (Variables next []) (sym (one_value xs [] is)) tt
+variables_made signature next [] xs is = subst (Variables next []) (sym (same_resolved xs [] is)) tt
 variables_made signature next (w ∷ ws) xs is =
     by (variable_at signature next w) refl (sorted_variables signature (suc next) ws)
     (λ vs there. variables_made signature (suc next) ws vs there)
@@ -114,19 +100,19 @@ variables_made signature next (w ∷ ws) xs is =
         → ((vs : List Variable) → resolved vs ≡ rest → Variables (suc next) ws vs)
         → resolved xs ≡ and_then first (λ x. put_in_front x rest) → Variables next (w ∷ ws) xs
     by (resolved x) first (resolved vs) later is =
-        subst (Variables next (w ∷ ws)) (sym (one_value xs (x ∷ vs) is)) (variable_made signature next w x (sym first), later vs refl)
+        subst (Variables next (w ∷ ws)) (sym (same_resolved xs (x ∷ vs) is)) (variable_made signature next w x (sym first), later vs refl)
     by (resolved x) first (faulty fault) later is = absurd (cc is)
     by (faulty fault) first rest later is = absurd (cc is)
 
 pub listed_variables : (signature : Signature) (next : ℕ) (ws : List WrittenVariable) (xs : List Variable)
     → resolved xs ≡ variables_at signature next ws → Variables next ws xs
 listed_variables signature next ws xs is =
-    variables_made signature next ws xs (beside_there (first_double (placed_variables ws)) (sorted_variables signature next ws) xs is)
+    variables_made signature next ws xs (beside_of (first_double (placed_variables ws)) (sorted_variables signature next ws) xs is)
 
 pub bindings_made : (signature : Signature) (scope : List Variable) (next : ℕ) (ws : List (WrittenVariable × WrittenTerm))
     (xs : List (Variable × Term)) → BindingsAre signature scope next ws (resolved xs) → Variables next (let_names ws) (let_variables xs)
 bindings_made signature scope next [] xs is =
-    subst (λ (bs : List (Variable × Term)). Variables next [] (let_variables bs)) (sym (one_value xs [] is)) tt
+    subst (λ (bs : List (Variable × Term)). Variables next [] (let_variables bs)) (sym (same_resolved xs [] is)) tt
 bindings_made signature scope next (w ∷ ws) [] is = absurd is.2
 bindings_made signature scope next (w ∷ ws) (x ∷ xs) is =
     let made = is.1 in
@@ -139,7 +125,7 @@ bindings_made signature scope next (w ∷ ws) (x ∷ xs) is =
 pub let_made : (signature : Signature) (scope : List Variable) (next : ℕ) (ws : List (WrittenVariable × WrittenTerm))
     (xs : List (Variable × Term)) → LetIs signature scope next ws (resolved xs) → Variables next (let_names ws) (let_variables xs)
 let_made signature scope next ws xs is =
-    by is.0 is.1 (beside_there (first_double (placed_variables (let_names ws))) is.0 xs is.2)
+    by is.0 is.1 (beside_of (first_double (placed_variables (let_names ws))) is.0 xs is.2)
   where
     by : (others : Resolution (List (Variable × Term))) → BindingsAre signature scope next ws others → resolved xs ≡ others
         → Variables next (let_names ws) (let_variables xs)
@@ -152,7 +138,7 @@ let_long (w ∷ ws) = ap suc (let_long ws)
 pub offers_made : (signature : Signature) (scope : List Variable) (next : ℕ) (ws : List WrittenOffer) (xs : List Offer)
     → OffersFollow signature scope next ws (resolved xs) → Variables next (asked_for ws) (asked_variables xs)
 offers_made signature scope next [] xs is =
-    subst (λ (os : List Offer). Variables next [] (asked_variables os)) (sym (one_value xs [] is)) tt
+    subst (λ (os : List Offer). Variables next [] (asked_variables os)) (sym (same_resolved xs [] is)) tt
 offers_made signature scope next (offer_value term ∷ ws) [] is = absurd is.2
 offers_made signature scope next (offer_variable w ∷ ws) [] is = absurd is.2
 offers_made signature scope next (offer_value term ∷ ws) (x ∷ xs) is =
@@ -167,7 +153,7 @@ offers_made signature scope next (offer_variable w ∷ ws) (x ∷ xs) is =
 pub listed_offers : (signature : Signature) (scope : List Variable) (next : ℕ) (ws : List WrittenOffer) (xs : List Offer)
     → OffersAre signature scope next ws (resolved xs) → Variables next (asked_for ws) (asked_variables xs)
 listed_offers signature scope next ws xs is =
-    by is.0 is.1 (beside_there (first_double (placed_variables (asked_for ws))) is.0 xs is.2)
+    by is.0 is.1 (beside_of (first_double (placed_variables (asked_for ws))) is.0 xs is.2)
   where
     by : (others : Resolution (List Offer)) → OffersFollow signature scope next ws others → resolved xs ≡ others
         → Variables next (asked_for ws) (asked_variables xs)
@@ -181,7 +167,7 @@ chosen choices = map (λ (c : GateChoice). c.gate) choices
 pub choices_made : (declared : List WrittenGateChoice) (bindings : List Binding) (next : ℕ) (choices : List GateChoice)
     → resolved choices ≡ choices_follow bindings next declared → Gates next (choice_names declared) (chosen choices)
 choices_made [] bindings next choices is =
-    subst (λ (cs : List GateChoice). Gates next [] (chosen cs)) (sym (one_value choices [] is)) tt
+    subst (λ (cs : List GateChoice). Gates next [] (chosen cs)) (sym (same_resolved choices [] is)) tt
 choices_made (one ∷ declared) bindings next choices is =
     by (gates_at bindings one.among) (choices_follow (bind one.name next bindings) (suc next) declared)
     (λ cs there. choices_made declared (bind one.name next bindings) (suc next) cs there) is
@@ -192,14 +178,14 @@ choices_made (one ∷ declared) bindings next choices is =
         → Gates next (choice_names (one ∷ declared)) (chosen choices)
     by (resolved among) (resolved cs) later is =
         subst (λ (all : List GateChoice). Gates next (choice_names (one ∷ declared)) (chosen all))
-        (sym (one_value choices (record { gate = next; among = among } ∷ cs) is)) (refl, later cs refl)
+        (sym (same_resolved choices (record { gate = next; among = among } ∷ cs) is)) (refl, later cs refl)
     by (resolved among) (faulty fault) later is = absurd (cc is)
     by (faulty fault) rest later is = absurd (cc is)
 
 -- as many signs as choices
 pub follow_long : (declared : List WrittenGateChoice) (bindings : List Binding) (next : ℕ) (choices : List GateChoice)
     → resolved choices ≡ choices_follow bindings next declared → length choices ≡ length declared
-follow_long [] bindings next choices is = ap (λ (cs : List GateChoice). length cs) (one_value choices [] is)
+follow_long [] bindings next choices is = ap (λ (cs : List GateChoice). length cs) (same_resolved choices [] is)
 follow_long (one ∷ declared) bindings next choices is =
     by (gates_at bindings one.among) (choices_follow (bind one.name next bindings) (suc next) declared)
     (λ cs there. follow_long declared (bind one.name next bindings) (suc next) cs there) is
@@ -209,14 +195,14 @@ follow_long (one ∷ declared) bindings next choices is =
         → resolved choices ≡ and_then first (λ among. put_in_front (record { gate = next; among = among }) rest)
         → length choices ≡ suc (length declared)
     by (resolved among) (resolved cs) later is =
-        ap (λ (all : List GateChoice). length all) (one_value choices (record { gate = next; among = among } ∷ cs) is)
+        ap (λ (all : List GateChoice). length all) (same_resolved choices (record { gate = next; among = among } ∷ cs) is)
         ∙ ap suc (later cs refl)
     by (resolved among) (faulty fault) later is = absurd (cc is)
     by (faulty fault) rest later is = absurd (cc is)
 
 pub signs_long : (sign : WrittenSign) (declared : List WrittenGateChoice) (bindings : List Binding) (next : ℕ)
     (meets : List SynchronisationSet) → resolved meets ≡ signs_follow bindings next sign declared → length meets ≡ length declared
-signs_long sign [] bindings next meets is = ap (λ (ms : List SynchronisationSet). length ms) (one_value meets [] is)
+signs_long sign [] bindings next meets is = ap (λ (ms : List SynchronisationSet). length ms) (same_resolved meets [] is)
 signs_long sign (one ∷ declared) bindings next meets is =
     by (sign_at bindings sign) (signs_follow (bind one.name next bindings) (suc next) sign declared)
     (λ ms there. signs_long sign declared (bind one.name next bindings) (suc next) ms there) is
@@ -225,7 +211,7 @@ signs_long sign (one ∷ declared) bindings next meets is =
         → ((ms : List SynchronisationSet) → resolved ms ≡ rest → length ms ≡ length declared)
         → resolved meets ≡ and_then first (λ meet. put_in_front meet rest) → length meets ≡ suc (length declared)
     by (resolved meet) (resolved ms) later is =
-        ap (λ (all : List SynchronisationSet). length all) (one_value meets (meet ∷ ms) is) ∙ ap suc (later ms refl)
+        ap (λ (all : List SynchronisationSet). length all) (same_resolved meets (meet ∷ ms) is) ∙ ap suc (later ms refl)
     by (resolved meet) (faulty fault) later is = absurd (cc is)
     by (faulty fault) rest later is = absurd (cc is)
 
@@ -250,11 +236,11 @@ pars_made bindings next sign declared pars is =
         → Gates next (choice_names declared) (signed_gates pars)
     by (resolved choices) first (resolved meets) signs is =
         let follow =
-        beside_there (first_double (placed_choices declared)) (choices_follow bindings next declared) choices (sym first) in
+        beside_of (first_double (placed_choices declared)) (choices_follow bindings next declared) choices (sym first) in
         let long : length choices ≡ length meets =
         follow_long declared bindings next choices follow ∙ sym (signs_long sign declared bindings next meets (sym signs)) in
         subst (Gates next (choice_names declared))
-        (sym (ap signed_gates (one_value pars (with_signs choices meets) is) ∙ signed_are choices meets long))
+        (sym (ap signed_gates (same_resolved pars (with_signs choices meets) is) ∙ signed_are choices meets long))
         (choices_made declared bindings next choices follow)
     by (resolved choices) first (faulty fault) signs is = absurd (cc is)
     by (faulty fault) first signs is_signs is = absurd (cc is)

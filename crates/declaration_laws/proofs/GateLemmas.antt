@@ -14,7 +14,7 @@ use Rattle.behaviour_semantics.specs.Move.{Setting, Move, move_of, opened, alone
 use Rattle.behaviour_semantics.specs.Derives.{leaves_in, GivesMove}
 use Rattle.behaviour_semantics.specs.WellFormed.{Every}
 use Rattle.behaviour_semantics.proofs.OptionLemmas.{some_value}
-use Rattle.behaviour_semantics.proofs.RaisedDrafts.{every_map}
+use Rattle.behaviour_semantics.proofs.EveryLemmas.{every_map}
 use Rattle.behaviour_semantics.proofs.InstanceLemmas.{every_at}
 use Rattle.behaviour_semantics.proofs.RelabellingLemmas.{gate_under-then}
 use Rattle.declaration_laws.specs.VisibleGates.{IsOneOf, IsAt, UsesOnly, UsesFormals, MovesStayAtGates}

@@ -3,6 +3,7 @@ use Rattle.std.proofs.Common.{◌≡◌, ◌<◌, ◌≤◌, ◌+◌, ◌-◌, �
 use Rattle.std.specs.Prelude.{◌⊎◌, ◌||◌, ◌&&◌, ◌==◌, nat_lt, if◌then◌else◌}
 use Rattle.std.proofs.lemmas.Bool.{lt-ltb}
 use Rattle.std.proofs.lemmas.Bool.Decides.{Decides-eqb}
+use Rattle.std.proofs.Math.Bool.{or-true}
 use Rattle.lotos_base.specs.Equation.{Place}
 use Rattle.lotos_lexer.specs.declared.lexemes.Lexeme.{Lexeme}
 use Rattle.lotos_lexer.specs.declared.positions.Position.{Position}
@@ -59,10 +60,6 @@ from_past number position q h = (h.0, go h.1)
     go (inl less) = inl less
     go (inr same) = let at = same.1 in inr (same.0, omega (arith, at))
 
-or_true : (a : Bool) → (a || true) ≡ true
-or_true true = refl
-or_true false = refl
-
 -- a token at the position stands before what is behind it
 stands : (number : ℕ) (position : Position) (lexeme : Lexeme) (q : Place) → Past number position q
     → stands_before (place_of (token_at number position lexeme)) q ≡ true
@@ -71,7 +68,7 @@ stands number position lexeme q h =
     ap (λ (b : Bool). nat_lt number q.text
     || (b && (nat_lt position.line q.line || (nat_eq position.line q.line && nat_lt position.column q.column)))) here
     ∙ ap (λ (b : Bool). nat_lt number q.text || b) (go h.1)
-    ∙ or_true (nat_lt number q.text)
+    ∙ or-true (nat_lt number q.text)
   where
     go : (position.line < q.line) ⊎ ((position.line ≡ q.line) × (position.column < q.column))
         → (nat_lt position.line q.line || (nat_eq position.line q.line && nat_lt position.column q.column)) ≡ true
@@ -81,7 +78,7 @@ stands number position lexeme q h =
         ap (λ (b : Bool). nat_lt position.line q.line || (b && nat_lt position.column q.column))
         ((Decides-eqb position.line q.line).1 same.0)
         ∙ ap (λ (b : Bool). nat_lt position.line q.line || b) (lt-ltb position.column q.column same.1)
-        ∙ or_true (nat_lt position.line q.line)
+        ∙ or-true (nat_lt position.line q.line)
 
 -- The tokens stand in the text at the position or behind it, one behind the other.
 record AreFrom (number : ℕ) (position : Position) (tokens : List Token) : Type 0 where

@@ -15,3 +15,4 @@ pub mod BehaviourPlaceLemmas
 pub mod TextPlaceLemmas
 pub mod ReadLemmas
 pub mod GateListLemmas
+pub mod HandedOn

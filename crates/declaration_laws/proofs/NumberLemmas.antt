@@ -9,58 +9,60 @@ use Rattle.syntax_trees.specs.WrittenDefinition.{WrittenHeading, WrittenInner, W
 use Rattle.behaviour_semantics.specs.Behaviour.{Behaviour, stop, Process, Specification, asked_variables, let_variables}
 use Rattle.scope_parts.specs.Resolution.{Resolution, resolved, faulty, and_then}
 use Rattle.scope_parts.specs.Scope.{Binding, Callable, Scope, first_double}
-use Rattle.scope_parts.specs.Numbering.{Numbers, spelled, each_once, asked_for, accepted, choice_names, gates_in, variable_count, past, own_gates, inner_gates, inners_gates, past_own, past_inner, past_inners}
+use Rattle.scope_parts.specs.Numbering.{Numbers, spelled_names, each_once, asked_for, accepted, choice_names, gates_in, variable_count, past, own_gates, inner_gates, inners_gates, past_own, past_inner, past_inners}
 use Rattle.scope_parts.specs.Sorts.{variables_at, functionality_at}
 use Rattle.scope_parts.specs.Terms.{let_names}
 use Rattle.scope_parts.specs.Choices.{choices_follow, placed_choices}
 use Rattle.scope_parts.specs.Behaviours.{numbers_from, SignIs, BehaviourIs}
 use Rattle.scope_parts.specs.Definitions.{Heading, heading_at, formal_gates, DefinitionIs, InnerIs, InnersAre, past_name, first_numbers, declared_gates, specification_with}
-use Rattle.declaration_laws.specs.DeclarationOrder.{variables_in, inner_variables, inners_variables, declared_variables, gates_bound, variables_bound, process_gates, process_variables, all_gates_of, all_variables_of, HasGateNumber, HasVariableNumber, IsInOrderOfText, DeclarationsHaveTheNextNumber}
-use Rattle.declaration_laws.proofs.FollowLemmas.{Gates, Variables, chosen, signed_gates, more_gates, more_variables, names_follow, spelled_follow, spelled_long, one_value, beside_there, listed_variables, let_made, let_long, listed_offers, choices_made, pars_made, names_long, gates_under, variables_under, gates_under_par, variables_under_par, gates_under_values, variables_under_values, follow_at}
+use Rattle.scope_parts.proofs.FormedLists.{same_resolved, beside_of}
+use Rattle.declaration_laws.specs.DeclarationOrder.{declared_variables_in, inner_variables, inners_variables, declared_variables, gates_bound, variables_bound, process_gates, process_variables, all_gates_of, all_variables_of, HasGateNumber, HasVariableNumber, IsInOrderOfText, DeclarationsHaveTheNextNumber}
+use Rattle.declaration_laws.proofs.FollowLemmas.{Gates, Variables, chosen, signed_gates, more_gates, more_variables, names_follow, spelled_follow, spelled_long, listed_variables, let_made, let_long, listed_offers, choices_made, pars_made, names_long, gates_under, variables_under, gates_under_par, variables_under_par, gates_under_values, variables_under_values, follow_at}
 
 -- ---- How many variables a behaviour declares
 
-pub count_is : (w : WrittenBehaviour) → variable_count w ≡ length (variables_in w)
+pub count_is : (w : WrittenBehaviour) → variable_count w ≡ length (declared_variables_in w)
 count_is (written.stop place) = refl
 count_is (written.exit place values) = refl
 count_is (written.call place name gates values) = refl
 count_is (written.action place gate offers test next) =
-    ap (λ (n : ℕ). length (asked_for offers) + n) (count_is next) ∙ sym (length-append (asked_for offers) (variables_in next))
+    ap (λ (n : ℕ). length (asked_for offers) + n) (count_is next) ∙ sym (length-append (asked_for offers) (declared_variables_in next))
 count_is (written.inner_action place next) = count_is next
 count_is (written.guard place test next) = count_is next
 count_is (written.hide place gates inside) = count_is inside
 count_is (written.let_be place values inside) =
     let long = let_long values in
     let more = count_is inside in
-    let all = length-append (let_names values) (variables_in inside) in
+    let all = length-append (let_names values) (declared_variables_in inside) in
     omega (arith, long, more, all)
 count_is (written.choose_value place variables inside) =
-    ap (λ (n : ℕ). length variables + n) (count_is inside) ∙ sym (length-append variables (variables_in inside))
+    ap (λ (n : ℕ). length variables + n) (count_is inside) ∙ sym (length-append variables (declared_variables_in inside))
 count_is (written.choose_gate place gates inside) = count_is inside
 count_is (written.par_gate place gates sign inside) = count_is inside
 count_is (written.binary place sign left right) =
     let first = count_is left in
     let second = count_is right in
-    let all = length-append (variables_in left) (accepted sign ++ variables_in right) in
-    let behind = length-append (accepted sign) (variables_in right) in
+    let all = length-append (declared_variables_in left) (accepted sign ++ declared_variables_in right) in
+    let behind = length-append (accepted sign) (declared_variables_in right) in
     omega (arith, first, second, all, behind)
 
 -- ---- Behaviours
 
 pub record IsMade (numbers : Numbers) (w : WrittenBehaviour) (b : Behaviour) : Type 0 where
   pub gates : Gates numbers.gate (gates_in w) (gates_bound b)
-  pub variables : Variables numbers.variable (variables_in w) (variables_bound b)
+  pub variables : Variables numbers.variable (declared_variables_in w) (variables_bound b)
 
 module _ (signature : Signature) where
   -- two behaviours, one behind the other
   two_made : (numbers : Numbers) (left right : WrittenBehaviour) (b c : Behaviour) → IsMade numbers left b
       → IsMade (past left numbers) right c
       → Gates numbers.gate (gates_in left ++ gates_in right) (gates_bound b ++ gates_bound c)
-      × Variables numbers.variable (variables_in left ++ variables_in right) (variables_bound b ++ variables_bound c)
+      × Variables numbers.variable (declared_variables_in left ++ declared_variables_in right) (variables_bound b ++ variables_bound c)
   two_made numbers left right b c first second = (
     more_gates numbers.gate (past left numbers).gate (gates_in left) (gates_in right) (gates_bound b) (gates_bound c) refl first.gates
         second.gates,
-    more_variables numbers.variable (past left numbers).variable (variables_in left) (variables_in right) (variables_bound b)
+    more_variables numbers.variable (past left numbers).variable (declared_variables_in left) (declared_variables_in right)
+        (variables_bound b)
         (variables_bound c) (ap (λ (n : ℕ). numbers.variable + n) (count_is left)) first.variables second.variables,
   )
 
@@ -94,17 +96,18 @@ module _ (signature : Signature) where
             more_gates numbers.gate (past left numbers).gate (gates_in left) (gates_in right) (gates_bound first)
             (gates_bound is.2.0) refl made.gates second.gates;
         variables =
-            more_variables numbers.variable (past left numbers).variable (variables_in left) (given ++ variables_in right)
+            more_variables numbers.variable (past left numbers).variable (declared_variables_in left) (given ++ declared_variables_in right)
             (variables_bound first) (is.0 ++ variables_bound is.2.0) (ap (λ (n : ℕ). numbers.variable + n) (count_is left))
             made.variables
-            (more_variables (past left numbers).variable ((past left numbers).variable + length given) given (variables_in right) is.0
+            (more_variables (past left numbers).variable ((past left numbers).variable + length given) given
+            (declared_variables_in right) is.0
             (variables_bound is.2.0) refl (listed_variables signature (past left numbers).variable given is.0 is.1) second.variables);
       })
 
   pub behaviour_made : (w : WrittenBehaviour) (scope : Scope) (numbers : Numbers) (b : Behaviour)
       → BehaviourIs signature scope numbers w (resolved b) → IsMade numbers w b
   behaviour_made (written.stop place) scope numbers b is =
-      subst (IsMade numbers (written.stop place)) (sym (one_value b stop is)) (record { gates = tt; variables = tt })
+      subst (IsMade numbers (written.stop place)) (sym (same_resolved b stop is)) (record { gates = tt; variables = tt })
   behaviour_made (written.exit place values) scope numbers b is =
       subst (IsMade numbers (written.exit place values)) (sym is.2) (record { gates = tt; variables = tt })
   behaviour_made (written.call place name gates values) scope numbers b is =
@@ -114,7 +117,7 @@ module _ (signature : Signature) where
       subst (IsMade numbers (written.action place gate offers test next)) (sym is.2.2.2.2) (record {
         gates = inner.gates;
         variables =
-            more_variables numbers.variable (numbers.variable + length (asked_for offers)) (asked_for offers) (variables_in next)
+            more_variables numbers.variable (numbers.variable + length (asked_for offers)) (asked_for offers) (declared_variables_in next)
             (asked_variables is.2.0) (variables_bound is.2.2.2.0) refl
             (listed_offers signature scope.variables numbers.variable offers is.2.0 is.2.1) inner.variables;
       })
@@ -126,7 +129,7 @@ module _ (signature : Signature) where
       subst (IsMade numbers (written.guard place test next)) (sym is.2.2) (record { gates = inner.gates; variables = inner.variables })
   behaviour_made (written.hide place gates inside) scope numbers b is =
       let inner = behaviour_made inside _ _ is.0 is.1 in
-      let names : List (List ℕ) = each_once (spelled gates) in
+      let names : List (List ℕ) = each_once (spelled_names gates) in
       subst (IsMade numbers (written.hide place gates inside)) (sym is.2) (record {
         gates =
             more_gates numbers.gate (numbers.gate + length names) names (gates_in inside) (numbers_from numbers.gate names)
@@ -138,7 +141,7 @@ module _ (signature : Signature) where
       subst (IsMade numbers (written.let_be place values inside)) (sym is.2.2) (record {
         gates = inner.gates;
         variables =
-            more_variables numbers.variable (numbers.variable + length values) (let_names values) (variables_in inside)
+            more_variables numbers.variable (numbers.variable + length values) (let_names values) (declared_variables_in inside)
             (let_variables is.0) (variables_bound is.2.0) (ap (λ (n : ℕ). numbers.variable + n) (let_long values))
             (let_made signature scope.variables numbers.variable values is.0 is.1) inner.variables;
       })
@@ -146,20 +149,20 @@ module _ (signature : Signature) where
       let inner = behaviour_made inside _ _ is.2.0 is.2.1 in
       subst (IsMade numbers (written.choose_value place given inside)) (sym is.2.2) (record {
         gates = subst (Gates numbers.gate (gates_in inside)) (sym (gates_under_values is.0 is.2.0)) inner.gates;
-        variables = subst (Variables numbers.variable (given ++ variables_in inside)) (sym (variables_under_values is.0 is.2.0))
-            (more_variables numbers.variable (numbers.variable + length given) given (variables_in inside) is.0
+        variables = subst (Variables numbers.variable (given ++ declared_variables_in inside)) (sym (variables_under_values is.0 is.2.0))
+            (more_variables numbers.variable (numbers.variable + length given) given (declared_variables_in inside) is.0
             (variables_bound is.2.0) refl (listed_variables signature numbers.variable given is.0 is.1) inner.variables);
       })
   behaviour_made (written.choose_gate place gates inside) scope numbers b is =
       let inner = behaviour_made inside _ _ is.2.0 is.2.1 in
       let follow =
-      beside_there (first_double (placed_choices gates)) (choices_follow scope.gates numbers.gate gates) is.0 is.1 in
+      beside_of (first_double (placed_choices gates)) (choices_follow scope.gates numbers.gate gates) is.0 is.1 in
       subst (IsMade numbers (written.choose_gate place gates inside)) (sym is.2.2) (record {
         gates = subst (Gates numbers.gate (choice_names gates ++ gates_in inside)) (sym (gates_under is.0 is.2.0))
             (more_gates numbers.gate (numbers.gate + length gates) (choice_names gates) (gates_in inside) (chosen is.0)
             (gates_bound is.2.0) (ap (λ (n : ℕ). numbers.gate + n) (names_long gates))
             (choices_made gates scope.gates numbers.gate is.0 follow) inner.gates);
-        variables = subst (Variables numbers.variable (variables_in inside)) (sym (variables_under is.0 is.2.0)) inner.variables;
+        variables = subst (Variables numbers.variable (declared_variables_in inside)) (sym (variables_under is.0 is.2.0)) inner.variables;
       })
   behaviour_made (written.par_gate place gates sign inside) scope numbers b is =
       let inner = behaviour_made inside _ _ is.2.0 is.2.1 in
@@ -168,7 +171,8 @@ module _ (signature : Signature) where
             (more_gates numbers.gate (numbers.gate + length gates) (choice_names gates) (gates_in inside) (signed_gates is.0)
             (gates_bound is.2.0) (ap (λ (n : ℕ). numbers.gate + n) (names_long gates))
             (pars_made scope.gates numbers.gate sign gates is.0 is.1) inner.gates);
-        variables = subst (Variables numbers.variable (variables_in inside)) (sym (variables_under_par is.0 is.2.0)) inner.variables;
+        variables =
+            subst (Variables numbers.variable (declared_variables_in inside)) (sym (variables_under_par is.0 is.2.0)) inner.variables;
       })
   behaviour_made (written.binary place sign left right) scope numbers b is =
       sign_made scope numbers place sign left right is.0 b (λ inside behind c there. behaviour_made right inside behind c there)
@@ -177,7 +181,7 @@ module _ (signature : Signature) where
   -- ---- Definitions
 
   record IsHeadingMade (numbers : Numbers) (heading : WrittenHeading) (found : Heading) : Type 0 where
-    pub gates : Gates numbers.gate (spelled heading.gates) found.gates
+    pub gates : Gates numbers.gate (spelled_names heading.gates) found.gates
     pub variables : Variables numbers.variable heading.parameters found.parameters
 
   heading_made : (numbers : Numbers) (heading : WrittenHeading) (found : Heading) → resolved found ≡ heading_at signature numbers heading
@@ -193,12 +197,12 @@ module _ (signature : Signature) where
           (λ exit. resolved (record { gates = gates; parameters = parameters; exit = exit }))))
           → IsHeadingMade numbers heading found
       by (resolved gates) first (resolved variables) second (resolved exit) is =
-          let same = one_value found (record { gates = gates; parameters = variables; exit = exit }) is in
+          let same = same_resolved found (record { gates = gates; parameters = variables; exit = exit }) is in
           let counted : gates ≡ numbers_from numbers.gate heading.gates =
-          one_value gates (numbers_from numbers.gate heading.gates)
-          (beside_there (first_double heading.gates) (resolved (numbers_from numbers.gate heading.gates)) gates (sym first)) in
+          same_resolved gates (numbers_from numbers.gate heading.gates)
+          (beside_of (first_double heading.gates) (resolved (numbers_from numbers.gate heading.gates)) gates (sym first)) in
           subst (IsHeadingMade numbers heading) (sym same) (record {
-            gates = subst (Gates numbers.gate (spelled heading.gates)) (sym counted) (spelled_follow numbers.gate heading.gates);
+            gates = subst (Gates numbers.gate (spelled_names heading.gates)) (sym counted) (spelled_follow numbers.gate heading.gates);
             variables = listed_variables signature numbers.variable heading.parameters variables (sym second);
           })
       by (resolved gates) first (resolved variables) second (faulty fault) is = absurd (cc is)
@@ -209,7 +213,8 @@ module _ (signature : Signature) where
   pub record IsDefinitionMade (numbers : Numbers) (heading : WrittenHeading) (body : WrittenBehaviour) (made : Heading × Behaviour)
       : Type 0 where
     pub gates : Gates numbers.gate (own_gates heading body) (made.0.gates ++ gates_bound made.1)
-    pub variables : Variables numbers.variable (heading.parameters ++ variables_in body) (made.0.parameters ++ variables_bound made.1)
+    pub variables : Variables numbers.variable (heading.parameters ++ declared_variables_in body)
+        (made.0.parameters ++ variables_bound made.1)
 
   pub definition_made : (processes : List Callable) (numbers : Numbers) (heading : WrittenHeading) (body : WrittenBehaviour)
       (made : Heading × Behaviour) → DefinitionIs signature processes numbers heading body (resolved made)
@@ -219,10 +224,10 @@ module _ (signature : Signature) where
       let inner = behaviour_made body _ _ is.2.0 is.2.1 in
       subst (IsDefinitionMade numbers heading body) (sym is.2.2) (record {
         gates =
-            more_gates numbers.gate (numbers.gate + length heading.gates) (spelled heading.gates) (gates_in body) is.0.gates
+            more_gates numbers.gate (numbers.gate + length heading.gates) (spelled_names heading.gates) (gates_in body) is.0.gates
             (gates_bound is.2.0) (ap (λ (n : ℕ). numbers.gate + n) (spelled_long heading.gates)) front.gates inner.gates;
         variables =
-            more_variables numbers.variable (numbers.variable + length heading.parameters) heading.parameters (variables_in body)
+            more_variables numbers.variable (numbers.variable + length heading.parameters) heading.parameters (declared_variables_in body)
             is.0.parameters (variables_bound is.2.0) refl front.variables inner.variables;
       })
 
@@ -231,14 +236,14 @@ module _ (signature : Signature) where
       → (past_own heading body numbers).gate ≡ numbers.gate + length (own_gates heading body)
   own_gate numbers heading body =
       let long = spelled_long heading.gates in
-      let all = length-append (spelled heading.gates) (gates_in body) in
+      let all = length-append (spelled_names heading.gates) (gates_in body) in
       omega (arith, long, all)
 
   pub own_variable : (numbers : Numbers) (heading : WrittenHeading) (body : WrittenBehaviour)
-      → (past_own heading body numbers).variable ≡ numbers.variable + length (heading.parameters ++ variables_in body)
+      → (past_own heading body numbers).variable ≡ numbers.variable + length (heading.parameters ++ declared_variables_in body)
   own_variable numbers heading body =
       let count = count_is body in
-      let all = length-append heading.parameters (variables_in body) in
+      let all = length-append heading.parameters (declared_variables_in body) in
       omega (arith, count, all)
 
   mutual
@@ -265,7 +270,7 @@ module _ (signature : Signature) where
     inner_variable (process heading body inner) numbers =
         let own = own_variable (past_name numbers) heading body in
         let more = inners_variable inner (past_own heading body (past_name numbers)) in
-        let all = length-append (heading.parameters ++ variables_in body) (inners_variables inner) in
+        let all = length-append (heading.parameters ++ declared_variables_in body) (inners_variables inner) in
         omega (arith, own, more, all)
 
     pub inners_variable : (ws : WrittenInners) (numbers : Numbers)
@@ -298,7 +303,7 @@ module _ (signature : Signature) where
     pub inner_made : (w : WrittenInner) (visible : List Callable) (before : List Binding) (numbers : Numbers) (ps : List Process)
         → InnerIs signature visible before numbers w (resolved ps) → AreMade numbers (inner_gates w) (inner_variables w) ps
     inner_made (inner_item item) visible before numbers ps is =
-        subst (AreMade numbers [] []) (sym (one_value ps [] is)) (record { gates_are = tt; variables_are = tt })
+        subst (AreMade numbers [] []) (sym (same_resolved ps [] is)) (record { gates_are = tt; variables_are = tt })
     inner_made (process heading body inner) visible before numbers ps is =
         let own = definition_made _ (past_name numbers) heading body is.2.0 is.2.1 in
         let more = inners_made inner _ _ (past_own heading body (past_name numbers)) is.2.2.0 is.2.2.1 in
@@ -310,14 +315,14 @@ module _ (signature : Signature) where
               more.gates_are;
           variables_are =
               more_variables numbers.variable (past_own heading body (past_name numbers)).variable
-              (heading.parameters ++ variables_in body) (inners_variables inner) (is.2.0.0.parameters ++ variables_bound is.2.0.1)
+              (heading.parameters ++ declared_variables_in body) (inners_variables inner) (is.2.0.0.parameters ++ variables_bound is.2.0.1)
               (process_variables is.2.2.0) (own_variable (past_name numbers) heading body) own.variables more.variables_are;
         })
 
     pub inners_made : (ws : WrittenInners) (visible : List Callable) (before : List Binding) (numbers : Numbers) (ps : List Process)
         → InnersAre signature visible before numbers ws (resolved ps) → AreMade numbers (inners_gates ws) (inners_variables ws) ps
     inners_made no_inner visible before numbers ps is =
-        subst (AreMade numbers [] []) (sym (one_value ps [] is)) (record { gates_are = tt; variables_are = tt })
+        subst (AreMade numbers [] []) (sym (same_resolved ps [] is)) (record { gates_are = tt; variables_are = tt })
     inners_made (inner_then inner others) visible before numbers ps is =
         let first = inner_made inner visible before numbers is.0 is.1 in
         let more = inners_made others visible _ (past_inner inner numbers) is.2.0 is.2.1 in
@@ -368,6 +373,6 @@ declarations_have_the_next_number signature text specification is =
     (more_gates 0 behind.gate (own_gates text.heading text.body) (inners_gates (inners_of text.inner))
     (is.0.0.gates ++ gates_bound is.0.1) (process_gates is.2.0) (own_gate signature first_numbers text.heading text.body) own.gates
     more.gates_are)
-    (more_variables 0 behind.variable (text.heading.parameters ++ variables_in text.body) (inners_variables (inners_of text.inner))
+    (more_variables 0 behind.variable (text.heading.parameters ++ declared_variables_in text.body) (inners_variables (inners_of text.inner))
     (is.0.0.parameters ++ variables_bound is.0.1) (process_variables is.2.0)
     (own_variable signature first_numbers text.heading text.body) own.variables more.variables_are))

@@ -16,7 +16,7 @@ use Rattle.scope_parts.specs.Numbering.{asked_for}
 use Rattle.scope_parts.specs.Sorts.{placed_variables}
 use Rattle.scope_parts.specs.Terms.{let_names}
 use Rattle.scope_parts.specs.Choices.{placed_choices}
-use Rattle.scope_parts.specs.Order.{IsOneOf, StandWhollyBefore, Rising, InTurn, joined}
+use Rattle.scope_parts.specs.Order.{IsOneOfPlaces, StandWhollyBefore, Rising, InTurn, joined_places}
 use Rattle.scope_parts.specs.TermPlaces.{name_places, term_places}
 use Rattle.scope_parts.specs.PartPlaces.{sort_places, variable_places, SortsFollow, VariablesFollow, exit_value_places, exit_places, binding_places, bindings_places, let_places, LetFollows, offer_places, offered_places, offers_places, OfferFollows, OffersInTurn, OffersFollowOn, choice_places, AmongFollow, ChoicesFollow, sign_places, SignFollows}
 use Rattle.scope_parts.proofs.FormedDefinitions.{every_both}
@@ -94,7 +94,7 @@ sorts_behind : (p : Place) (ys : List WrittenVariable) → StandWhollyBefore (p 
 sorts_behind p [] h = tt
 sorts_behind p (y ∷ ys) h = (inr (λ x q here at. h x q here (first q at)), sorts_behind p ys (λ x q here at. h x q here (inr at)))
   where
-    first : (q : Place) → IsOneOf q (y.sort_place ∷ []) → IsOneOf q (y.sort_place ∷ sort_places ys)
+    first : (q : Place) → IsOneOfPlaces q (y.sort_place ∷ []) → IsOneOfPlaces q (y.sort_place ∷ sort_places ys)
     first q (inl same) = inl same
     first q (inr at) = absurd at
 
@@ -208,12 +208,9 @@ values_turn (before_more {tokens = ts} {rest = rest} {token = comma} {value = va
   values_turn more (rises_back ts (comma ∷ rest) h).1,
 )
 
-abbrev AreExitValues : List ℕ → List Token → List WrittenExitValue → Type 0
-AreExitValues text = Optional [] (Between LEFT_PARENTHESIS RIGHT_PARENTHESIS (Separated COMMA (IsWrittenExitValue text)))
-
 pub exit_values_in : {text : List ℕ} {tokens : List Token} {values : List WrittenExitValue}
     → Optional [] (Between LEFT_PARENTHESIS RIGHT_PARENTHESIS (Separated COMMA (IsWrittenExitValue text))) tokens values
-    → Within (joined (exit_places values)) tokens
+    → Within (joined_places (exit_places values)) tokens
 exit_values_in left_out = nothing_within []
 exit_values_in {values = values} (there (between {open_token = left} {close_token = right} {tokens = ts} left_is are right_is)) =
     joined_within (exit_places values) (left ∷ (ts ++ right ∷ []))
@@ -266,7 +263,7 @@ let_names_in (before_more {tokens = ts} {rest = rest} {token = comma} {value = b
 pub let_in : {text : List ℕ} {tokens : List Token} {bindings : List (WrittenVariable × WrittenTerm)}
     → Separated COMMA (IsLetDeclaration text) tokens bindings → Within (let_places bindings) tokens
 let_in {tokens = tokens} {bindings = bindings} are =
-    both_within (LetNames bindings) (joined (bindings_places bindings)) tokens (let_names_in are)
+    both_within (LetNames bindings) (joined_places (bindings_places bindings)) tokens (let_names_in are)
     (joined_within (bindings_places bindings) tokens (bindings_in are))
 
 pub let_follows : {text : List ℕ} {tokens : List Token} {bindings : List (WrittenVariable × WrittenTerm)}
@@ -426,7 +423,7 @@ pub offers_in : {text : List ℕ} {ts us : List Token} {first : List WrittenOffe
     → Within (offers_places (first ++ flat_map (λ group. group) groups)) (ts ++ us)
 offers_in {ts = ts} {us = us} {first = first} {groups = groups} one more =
     let all = all_offers_in one more in
-    both_within (AskedNames (first ++ all_of groups)) (joined (offered_places (first ++ all_of groups))) (ts ++ us) all.names
+    both_within (AskedNames (first ++ all_of groups)) (joined_places (offered_places (first ++ all_of groups))) (ts ++ us) all.names
     (joined_within (offered_places (first ++ all_of groups)) (ts ++ us) all.parts)
 
 pub offers_follow_on : {text : List ℕ} {ts us : List Token} {first : List WrittenOffer} {groups : List (List WrittenOffer)}
@@ -579,7 +576,7 @@ pub choices_in : {text : List ℕ} {tokens : List Token} {gates : List WrittenGa
     → Within (choice_places gates) tokens
 choices_in {tokens = tokens} (gate_choices {groups = groups} are) =
     let all = choice_groups_in are in
-    both_within (ChoiceNames (all_of groups)) (joined (among_lists (all_of groups))) tokens all.names
+    both_within (ChoiceNames (all_of groups)) (joined_places (among_lists (all_of groups))) tokens all.names
     (joined_within (among_lists (all_of groups)) tokens all.parts)
 
 pub choices_follow : {text : List ℕ} {tokens : List Token} {gates : List WrittenGateChoice} → AreGateChoices text tokens gates

@@ -1,43 +1,23 @@
 -- Signatures whose sorts and operations agree one by one: what is looked up in them by names is the same.
-use Rattle.std.proofs.Common.{◌≡◌, ℕ, zero, suc, ◌+◌, List, [], ◌∷◌, ◌++◌, length, map, Option, None, Some, slice_get, Bool, ◌&&◌, ◌||◌, refl, ap, sym, ◌∙◌, subst}
+use Rattle.std.proofs.Common.{◌≡◌, ℕ, suc, ◌+◌, List, [], ◌∷◌, ◌++◌, length, map, Option, None, Some, Bool, ◌&&◌, ◌||◌, refl, ap, sym, ◌∙◌}
 use Rattle.std.specs.Prelude.{codes, nat_eq, if◌then◌else◌}
 use Rattle.std.specs.List.{list_any}
 use Rattle.std.specs.Str.{bytes_eq}
 use Rattle.lotos_base.specs.Equation.{Place, Variable}
-use Rattle.lotos_base.specs.Names.{AreOneName, folded}
+use Rattle.lotos_base.specs.Names.{folded}
 use Rattle.lotos_base.specs.Signature.{Signature, Sort, Operation, Form, prefix_form}
 use Rattle.lotos_base.specs.Twins.{form_eq}
 use Rattle.lotos_base.specs.WrittenTerm.{PlacedName}
 use Rattle.syntax_trees.specs.WrittenVariable.{WrittenVariable}
 use Rattle.syntax_trees.specs.WrittenDefinition.{WrittenHeading, WrittenInner, WrittenInners, inner_item, process, no_inner, inner_then}
 use Rattle.sort_terms.specs.ReadingOutcome.{is_operation_name, is_sort_name, one_name}
-use Rattle.certificate_theory.specs.SameData.{AreSameSorts, AreOneOperation, AreSameOperations}
+use Rattle.certificate_theory.specs.SameData.{AreSameSorts, AreSameOperations}
 use Rattle.certificate_theory.proofs.SameSignatures.{AgreeSignatures}
 use Rattle.scope_parts.specs.Numbering.{Numbers, process_count}
 use Rattle.scope_parts.specs.Resolution.{Resolution, resolved, faulty, and_then, put_in_front, beside}
 use Rattle.scope_parts.specs.Scope.{Callable, first_double}
 use Rattle.scope_parts.specs.Sorts.{Truth, sort_from, sort_named, found_sort, sort_at, sorts_at, functionality_at, variable_at, sorted_variables, placed_variables, variables_at, sorts_if, is_true, true_from, true_of, truth_in}
 use Rattle.scope_parts.specs.Definitions.{Heading, formal_gates, heading_at, callable_of, callables}
-
--- ---- Members.
-
-pub sort_there : (sorts others : List Sort) → AreSameSorts sorts others → (i : ℕ) (s : Sort) → slice_get sorts i ≡ Some s
-    → (r : Sort) × (slice_get others i ≡ Some r) × AreOneName s.name r.name
-sort_there [] [] same i s at = absurd (cc at)
-sort_there (q ∷ sorts) (r ∷ others) same zero s at =
-    let is : q ≡ s = cc at in (r, refl, subst (λ (z : Sort). AreOneName z.name r.name) is same.0)
-sort_there (q ∷ sorts) (r ∷ others) same (suc i) s at = sort_there sorts others same.1 i s at
-sort_there [] (r ∷ others) same i s at = absurd same
-sort_there (q ∷ sorts) [] same i s at = absurd same
-
-pub operation_there : (operations others : List Operation) → AreSameOperations operations others → (f : ℕ) (o : Operation)
-    → slice_get operations f ≡ Some o → (p : Operation) × (slice_get others f ≡ Some p) × AreOneOperation o p
-operation_there [] [] same f o at = absurd (cc at)
-operation_there (q ∷ operations) (p ∷ others) same zero o at =
-    let is : q ≡ o = cc at in (p, refl, subst (λ (z : Operation). AreOneOperation z p) is same.0)
-operation_there (q ∷ operations) (p ∷ others) same (suc f) o at = operation_there operations others same.1 f o at
-operation_there [] (p ∷ others) same f o at = absurd same
-operation_there (q ∷ operations) [] same f o at = absurd same
 
 -- ---- Names.
 

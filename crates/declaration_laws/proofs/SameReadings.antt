@@ -1,34 +1,16 @@
 -- Signatures whose sorts and operations agree one by one: written terms have the same readings over both.
-use Rattle.std.proofs.Common.{◌≡◌, ℕ, List, [], ◌∷◌, ◌++◌, Option, Bool, ◌&&◌, ◌||◌, inl, inr, refl, ap, sym, ◌∙◌, subst}
+use Rattle.std.proofs.Common.{◌≡◌, ℕ, List, [], ◌∷◌, ◌++◌, Option, Bool, ◌&&◌, ◌||◌, refl, ap, sym, ◌∙◌, subst}
 use Rattle.std.specs.Prelude.{if◌then◌else◌}
-use Rattle.lotos_base.specs.Equation.{Place, Variable}
+use Rattle.lotos_base.specs.Equation.{Variable}
 use Rattle.lotos_base.specs.Signature.{Signature, Form, prefix_form}
 use Rattle.lotos_base.specs.Term.{Term, Terms, variable, node, no_terms, term_then}
 use Rattle.lotos_base.specs.Twins.{form_eq}
 use Rattle.lotos_base.specs.WrittenTerm.{PlacedName, WrittenHead, WrittenTerm, WrittenTerms, written, no_written, written_then, written_head}
 use Rattle.sort_terms.specs.Reading.{Reads, AllRead, IsAsked, IsSortNamed}
-use Rattle.sort_terms.specs.ReadingOutcome.{ReadingRefusal, unknown_name, unknown_sort, ReadingOutcome, answered, refused, is_sort_name, is_variable_name, is_operation_name, unknown_at, unknown_sorts, in_text_order, unknown_in, unknown_in_each, ComesTo, IsReading, IsPairReading, ReadingIs, PairReadingIs, SortedTerm, SortedPair}
-use Rattle.certificate_theory.proofs.SameSignatures.{AgreeSignatures, agree_turned}
-use Rattle.declaration_laws.proofs.SameLookups.{sort_there, operation_there, is_operation_same, is_sort_same}
-
--- an outcome of one question is that of another with the same answers
-comes_with : {A : Type 0} (unknown : List ReadingRefusal) (place : Place) (P Q : A → Type 0) → ((x : A) → P x → Q x)
-    → ((x : A) → Q x → P x) → (o : ReadingOutcome A) → ComesTo unknown place P o → ComesTo unknown place Q o
-comes_with (first ∷ rest) place P Q to back (answered x) h = absurd h
-comes_with (first ∷ rest) place P Q to back (refused r) h = h
-comes_with [] place P Q to back (answered x) h =
-    record { is_answer = to x h.is_answer; only = λ y q. h.only y (back y q) }
-comes_with [] place P Q to back (refused r) (inl none) = inl ((λ x q. none.0 x (back x q)), none.1)
-comes_with [] place P Q to back (refused r) (inr two) = inr (
-  record {
-    one = two.0.one;
-    other = two.0.other;
-    one_is = to two.0.one two.0.one_is;
-    other_is = to two.0.other two.0.other_is;
-    differ = two.0.differ;
-  },
-  two.1,
-)
+use Rattle.sort_terms.specs.ReadingOutcome.{ReadingRefusal, unknown_name, unknown_sort, ReadingOutcome, is_sort_name, is_variable_name, is_operation_name, unknown_at, unknown_sorts, in_text_order, unknown_in, unknown_in_each, ComesTo, IsReading, IsPairReading, ReadingIs, PairReadingIs, SortedTerm, SortedPair}
+use Rattle.certificate_theory.proofs.SameSignatures.{AgreeSignatures, agree_turned, sort_there, operation_there}
+use Rattle.scope_parts.proofs.SeenLemmas.{comes_moved}
+use Rattle.declaration_laws.proofs.SameLookups.{is_operation_same, is_sort_same}
 
 module _ (signature other : Signature) (same : AgreeSignatures signature other) where
   -- ---- Names that stand for nothing.
@@ -113,7 +95,7 @@ module _ (signature other : Signature) (same : AgreeSignatures signature other) 
   pub reading_too : (scope : List Variable) (w : WrittenTerm) (expected : Option ℕ) (o : ReadingOutcome SortedTerm)
       → ReadingIs signature scope w expected o → ReadingIs other scope w expected o
   reading_too scope w expected o h =
-      comes_with (unknown_in other scope w) (written_head w).place (IsReading signature scope w expected)
+      comes_moved (unknown_in other scope w) (written_head w).place (IsReading signature scope w expected)
       (IsReading other scope w expected)
       (λ x r. (reads_too signature other same scope w x.term x.sort r.0, r.1))
       (λ x r. (reads_too other signature (agree_turned signature other same) scope w x.term x.sort r.0, r.1)) o
@@ -129,7 +111,7 @@ module _ (signature other : Signature) (same : AgreeSignatures signature other) 
       ≡ unknown_in other scope left ++ unknown_in other scope right =
       (λ i. first i ++ second i)
       in
-      comes_with (unknown_in other scope left ++ unknown_in other scope right) (written_head left).place
+      comes_moved (unknown_in other scope left ++ unknown_in other scope right) (written_head left).place
       (IsPairReading signature scope left right) (IsPairReading other scope left right)
       (λ x r. (reads_too signature other same scope left x.left x.sort r.0, reads_too signature other same scope right x.right x.sort r.1))
       (λ x r. (

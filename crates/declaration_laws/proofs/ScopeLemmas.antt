@@ -14,9 +14,10 @@ use Rattle.behaviour_semantics.specs.Behaviour.{Behaviour, stop, Process, Synchr
 use Rattle.behaviour_semantics.specs.WellFormed.{Every, IsBehaviour}
 use Rattle.scope_parts.specs.Resolution.{Resolution, resolved, faulty, and_then, put_in_front, beside}
 use Rattle.scope_parts.specs.Scope.{Binding, Scope, bound_to, bind, bind_all, found_gate, gate_at, gates_at, first_double}
-use Rattle.scope_parts.specs.Numbering.{Numbers, spelled, each_once, choice_names, past}
+use Rattle.scope_parts.specs.Numbering.{Numbers, spelled_names, each_once, choice_names, past}
 use Rattle.scope_parts.specs.Choices.{GateChoice, ParChoice, choices_follow, signs_follow, sign_at, with_signs, placed_choices, choices_at, par_choices_at, under_gates, under_par, under_values}
 use Rattle.scope_parts.specs.Behaviours.{numbers_from, SignIs, BehaviourIs}
+use Rattle.scope_parts.proofs.FormedLists.{same_resolved}
 use Rattle.declaration_laws.specs.VisibleGates.{IsOneOf, UsesOnly}
 use Rattle.declaration_laws.proofs.GateLemmas.{wider}
 
@@ -26,13 +27,6 @@ use Rattle.declaration_laws.proofs.GateLemmas.{wider}
 abbrev pub HasNumber : List Binding → ℕ → Type 0
 HasNumber [] n = ⊥
 HasNumber (b ∷ bindings) n = (b.number ≡ n) ⊎ HasNumber bindings n
-
-abbrev pub value_in : {A : Type 0} → A → Resolution A → A
-value_in other (resolved x) = x
-value_in other (faulty fault) = other
-
-pub one_value : {A : Type 0} (x y : A) → resolved x ≡ resolved y → x ≡ y
-one_value x y same = ap (value_in x) same
 
 number_there : (bindings : List Binding) (key : List ℕ) (n : ℕ) → bound_to bindings key ≡ Some n → HasNumber bindings n
 number_there [] key n is = absurd (cc is)
@@ -49,11 +43,11 @@ gate_there bindings gate n is = by (bound_to bindings (folded gate.name)) refl i
     by : (found : Option ℕ) → bound_to bindings (folded gate.name) ≡ found → resolved n ≡ found_gate gate found → HasNumber bindings n
     by None found is = absurd (cc is)
     by (Some m) found is =
-        number_there bindings (folded gate.name) n (found ∙ ap (λ (k : ℕ). Some k) (sym (one_value n m is)))
+        number_there bindings (folded gate.name) n (found ∙ ap (λ (k : ℕ). Some k) (sym (same_resolved n m is)))
 
 gates_there : (bindings : List Binding) (gates : List PlacedName) (numbers : List ℕ) → resolved numbers ≡ gates_at bindings gates
     → Every (HasNumber bindings) numbers
-gates_there bindings [] numbers is = subst (Every (HasNumber bindings)) (sym (one_value numbers [] is)) tt
+gates_there bindings [] numbers is = subst (Every (HasNumber bindings)) (sym (same_resolved numbers [] is)) tt
 gates_there bindings (gate ∷ gates) numbers is =
     by (gate_at bindings gate) refl (gates_at bindings gates) (λ ns there. gates_there bindings gates ns there) is
   where
@@ -61,7 +55,7 @@ gates_there bindings (gate ∷ gates) numbers is =
         → ((ns : List ℕ) → resolved ns ≡ rest → Every (HasNumber bindings) ns)
         → resolved numbers ≡ and_then first (λ number. put_in_front number rest) → Every (HasNumber bindings) numbers
     by (resolved n) first (resolved ns) later is =
-        subst (Every (HasNumber bindings)) (sym (one_value numbers (n ∷ ns) is)) (gate_there bindings gate n (sym first), later ns refl)
+        subst (Every (HasNumber bindings)) (sym (same_resolved numbers (n ∷ ns) is)) (gate_there bindings gate n (sym first), later ns refl)
     by (resolved n) first (faulty fault) later is = absurd (cc is)
     by (faulty fault) first rest later is = absurd (cc is)
 
@@ -107,7 +101,7 @@ AreChoicesOf (choice_ ∷ choices) (par ∷ pars) = (choice_ ≡ par.choice_) ×
 -- as many signs as choices
 follow_long : (declared : List WrittenGateChoice) (bindings : List Binding) (next : ℕ) (choices : List GateChoice)
     → resolved choices ≡ choices_follow bindings next declared → length choices ≡ length declared
-follow_long [] bindings next choices is = ap (λ (cs : List GateChoice). length cs) (one_value choices [] is)
+follow_long [] bindings next choices is = ap (λ (cs : List GateChoice). length cs) (same_resolved choices [] is)
 follow_long (one ∷ declared) bindings next choices is =
     by (gates_at bindings one.among) (choices_follow (bind one.name next bindings) (suc next) declared)
     (λ cs there. follow_long declared (bind one.name next bindings) (suc next) cs there) is
@@ -117,14 +111,14 @@ follow_long (one ∷ declared) bindings next choices is =
         → resolved choices ≡ and_then first (λ among. put_in_front (record { gate = next; among = among }) rest)
         → length choices ≡ suc (length declared)
     by (resolved among) (resolved cs) later is =
-        ap (λ (all : List GateChoice). length all) (one_value choices (record { gate = next; among = among } ∷ cs) is)
+        ap (λ (all : List GateChoice). length all) (same_resolved choices (record { gate = next; among = among } ∷ cs) is)
         ∙ ap suc (later cs refl)
     by (resolved among) (faulty fault) later is = absurd (cc is)
     by (faulty fault) rest later is = absurd (cc is)
 
 signs_long : (sign : WrittenSign) (declared : List WrittenGateChoice) (bindings : List Binding) (next : ℕ)
     (meets : List SynchronisationSet) → resolved meets ≡ signs_follow bindings next sign declared → length meets ≡ length declared
-signs_long sign [] bindings next meets is = ap (λ (ms : List SynchronisationSet). length ms) (one_value meets [] is)
+signs_long sign [] bindings next meets is = ap (λ (ms : List SynchronisationSet). length ms) (same_resolved meets [] is)
 signs_long sign (one ∷ declared) bindings next meets is =
     by (sign_at bindings sign) (signs_follow (bind one.name next bindings) (suc next) sign declared)
     (λ ms there. signs_long sign declared (bind one.name next bindings) (suc next) ms there) is
@@ -133,7 +127,7 @@ signs_long sign (one ∷ declared) bindings next meets is =
         → ((ms : List SynchronisationSet) → resolved ms ≡ rest → length ms ≡ length declared)
         → resolved meets ≡ and_then first (λ meet. put_in_front meet rest) → length meets ≡ suc (length declared)
     by (resolved meet) (resolved ms) later is =
-        ap (λ (all : List SynchronisationSet). length all) (one_value meets (meet ∷ ms) is) ∙ ap suc (later ms refl)
+        ap (λ (all : List SynchronisationSet). length all) (same_resolved meets (meet ∷ ms) is) ∙ ap suc (later ms refl)
     by (resolved meet) (faulty fault) later is = absurd (cc is)
     by (faulty fault) rest later is = absurd (cc is)
 
@@ -174,7 +168,7 @@ par_there bindings next sign declared pars is =
           choices = choices;
           follow = follow;
           are =
-              subst (AreChoicesOf choices) (sym (one_value pars (with_signs choices meets) is)) (signed_are choices meets long);
+              subst (AreChoicesOf choices) (sym (same_resolved pars (with_signs choices meets) is)) (signed_are choices meets long);
         }
     by (resolved choices) first (faulty fault) signs is = absurd (cc is)
     by (faulty fault) first signs is_signs is = absurd (cc is)
@@ -185,7 +179,7 @@ module _ (processes : List Process) where
       → UsesOnly (HasNumber (bind_all (choice_names declared) next bindings)) processes b
       → UsesOnly (HasNumber bindings) processes (under_gates choices b)
   choices_use [] bindings next choices b is uses =
-      subst (λ (cs : List GateChoice). UsesOnly (HasNumber bindings) processes (under_gates cs b)) (sym (one_value choices [] is)) uses
+      subst (λ (cs : List GateChoice). UsesOnly (HasNumber bindings) processes (under_gates cs b)) (sym (same_resolved choices [] is)) uses
   choices_use (one ∷ declared) bindings next choices b is uses =
       by (gates_at bindings one.among) refl (choices_follow (bind one.name next bindings) (suc next) declared)
       (λ cs there. choices_use declared (bind one.name next bindings) (suc next) cs b there uses) is
@@ -196,7 +190,7 @@ module _ (processes : List Process) where
           → UsesOnly (HasNumber bindings) processes (under_gates choices b)
       by (resolved among) first (resolved cs) later is =
           subst (λ (all : List GateChoice). UsesOnly (HasNumber bindings) processes (under_gates all b))
-          (sym (one_value choices (record { gate = next; among = among } ∷ cs) is)) (
+          (sym (same_resolved choices (record { gate = next; among = among } ∷ cs) is)) (
             gates_there bindings one.among among (sym first),
             wider processes (under_gates cs b) (HasNumber (bind one.name next bindings)) (λ g. HasNumber bindings g ⊎ (g ≡ next))
                 (λ g there. swapped g there) (later cs refl),
@@ -291,7 +285,7 @@ module _ (processes : List Process) where
     pub behaviour_uses : (w : WrittenBehaviour) (scope : Scope) (numbers : Numbers) (b : Behaviour)
         → BehaviourIs signature scope numbers w (resolved b) → UsesVisible scope b
     behaviour_uses (written.stop place) scope numbers b is =
-        subst (UsesVisible scope) (sym (one_value b stop is)) (λ variables well. tt)
+        subst (UsesVisible scope) (sym (same_resolved b stop is)) (λ variables well. tt)
     behaviour_uses (written.exit place values) scope numbers b is = subst (UsesVisible scope) (sym is.2) (λ variables well. tt)
     behaviour_uses (written.call place name gates values) scope numbers b is =
         subst (UsesVisible scope) (sym is.2.2.2) (λ variables well. (
@@ -310,9 +304,10 @@ module _ (processes : List Process) where
         subst (UsesVisible scope) (sym is.2.2) (λ variables well. behaviour_uses next scope numbers is.2.0 is.2.1 variables well.1)
     behaviour_uses (written.hide place gates inside) scope numbers b is =
         subst (UsesVisible scope) (sym is.2) (λ variables well.
-        wider processes is.0 (HasNumber (bind_all (each_once (spelled gates)) numbers.gate scope.gates))
-        (λ g. HasNumber scope.gates g ⊎ IsOneOf (numbers_from numbers.gate (each_once (spelled gates))) g)
-        (λ g there. declared_or_there (each_once (spelled gates)) (each_once (spelled gates)) numbers.gate scope.gates g refl there)
+        wider processes is.0 (HasNumber (bind_all (each_once (spelled_names gates)) numbers.gate scope.gates))
+        (λ g. HasNumber scope.gates g ⊎ IsOneOf (numbers_from numbers.gate (each_once (spelled_names gates))) g)
+        (λ g there. declared_or_there (each_once (spelled_names gates)) (each_once (spelled_names gates)) numbers.gate
+        scope.gates g refl there)
         (behaviour_uses inside _ _ is.0 is.1 variables well.1))
     behaviour_uses (written.let_be place values inside) scope numbers b is =
         subst (UsesVisible scope) (sym is.2.2) (λ variables well. behaviour_uses inside _ _ is.2.0 is.2.1 _ well.2)

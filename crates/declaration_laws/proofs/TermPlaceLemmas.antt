@@ -11,9 +11,8 @@ use Rattle.lotos_rows.specs.Names.{place_of, named, a_name, AreNames, AreOptiona
 use Rattle.lotos_rows.specs.Terms.{of_sort, infix_term, applied, IsTerm, grouped_factors, AreFactors, one_factor, more_factors, IsFactor, without_sort, with_sort, IsBase, without_arguments, with_arguments, bracketed, AreTerms, one_term, more_terms, AreArguments, no_arguments, some_arguments}
 use Rattle.lotos_rows.specs.Equations.{IsPremiss, true_term, equal_terms}
 use Rattle.behaviour_semantics.specs.WellFormed.{Every}
-use Rattle.behaviour_semantics.proofs.RaisedDrafts.{every_map}
-use Rattle.behaviour_semantics.proofs.EveryLemmas.{every_front, every_back}
-use Rattle.scope_parts.specs.Order.{IsOneOf, Rising, InTurn}
+use Rattle.behaviour_semantics.proofs.EveryLemmas.{every_front, every_back, every_map}
+use Rattle.scope_parts.specs.Order.{IsOneOfPlaces, Rising, InTurn}
 use Rattle.scope_parts.specs.TermPlaces.{name_places, term_places, terms_places, premiss_places}
 use Rattle.scope_parts.specs.PartPlaces.{value_places}
 use Rattle.declaration_laws.proofs.TokenOrder.{At, Rises, Within, AllWithin, rises_front, rises_back, nothing_within, here_within, in_left, in_right, in_rest, both_within, more_within, before_parts, before_all, all_in_left, all_in_right, all_in_rest}
@@ -96,13 +95,14 @@ infix_in name left right ts one first second =
     (both_within (terms_places (written_terms (left ∷ right ∷ []))) [] ts (arguments_in (left ∷ right ∷ []) ts (first, (second, tt)))
     (nothing_within ts))
 
-name_split : (p : Place) (names : List PlacedName) (name : PlacedName) → IsOneOf p (name_places (names ++ name ∷ []))
-    → IsOneOf p (name_places names) ⊎ IsOneOf p (name.place ∷ [])
+name_split : (p : Place) (names : List PlacedName) (name : PlacedName) → IsOneOfPlaces p (name_places (names ++ name ∷ []))
+    → IsOneOfPlaces p (name_places names) ⊎ IsOneOfPlaces p (name.place ∷ [])
 name_split p [] name at = inr at
 name_split p (n ∷ names) name (inl same) = inl (inl same)
 name_split p (n ∷ names) name (inr at) = go (name_split p names name at)
   where
-    go : IsOneOf p (name_places names) ⊎ IsOneOf p (name.place ∷ []) → ((p ≡ n.place) ⊎ IsOneOf p (name_places names)) ⊎ IsOneOf p
+    go : IsOneOfPlaces p (name_places names) ⊎ IsOneOfPlaces p (name.place ∷ [])
+        → ((p ≡ n.place) ⊎ IsOneOfPlaces p (name_places names)) ⊎ IsOneOfPlaces p
         (name.place ∷ [])
     go (inl here) = inl (inr here)
     go (inr here) = inr here
@@ -111,7 +111,7 @@ sorts_within : (before : List Place) (names : List PlacedName) (name : PlacedNam
     → Within (before ++ name_places names) ts → NameIn ts name → Within (before ++ name_places (names ++ name ∷ [])) ts
 sorts_within [] names name ts h one = λ p at. go p (name_split p names name at)
   where
-    go : (p : Place) → IsOneOf p (name_places names) ⊎ IsOneOf p (name.place ∷ []) → At p ts
+    go : (p : Place) → IsOneOfPlaces p (name_places names) ⊎ IsOneOfPlaces p (name.place ∷ []) → At p ts
     go p (inl here) = h p here
     go p (inr here) = one p here
 sorts_within (q ∷ before) names name ts h one =
@@ -119,7 +119,7 @@ sorts_within (q ∷ before) names name ts h one =
     (λ p at. h p (first p at))
     (sorts_within before names name ts (λ p at. h p (inr at)) one)
   where
-    first : (p : Place) → IsOneOf p (q ∷ []) → IsOneOf p (q ∷ (before ++ name_places names))
+    first : (p : Place) → IsOneOfPlaces p (q ∷ []) → IsOneOfPlaces p (q ∷ (before ++ name_places names))
     first p (inl same) = inl same
     first p (inr at) = absurd at
 
@@ -129,7 +129,8 @@ of_sort_in sort (written head arguments) ts h one =
     (λ p at. h p (first p at))
     (sorts_within (terms_places arguments) head.sorts sort ts (λ p at. h p (inr at)) one)
   where
-    first : (p : Place) → IsOneOf p (head.place ∷ []) → IsOneOf p (head.place ∷ (terms_places arguments ++ name_places head.sorts))
+    first : (p : Place) → IsOneOfPlaces p (head.place ∷ [])
+        → IsOneOfPlaces p (head.place ∷ (terms_places arguments ++ name_places head.sorts))
     first p (inl same) = inl same
     first p (inr at) = absurd at
 

@@ -1,7 +1,7 @@
 -- The places of definitions in texts.
 use Rattle.std.proofs.Common.{ℕ, List, [], ◌∷◌, ◌++◌, sym, subst, inl, inr}
 use Rattle.std.specs.Prelude.{◌⊎◌, Option}
-use Rattle.scope_parts.proofs.OrderLemmas.{before_both, both_before, in_either}
+use Rattle.scope_parts.proofs.OrderLemmas.{before_both, both_before, in_either, in_left as one_left, in_right as one_right}
 use Rattle.lotos_base.specs.Equation.{Place}
 use Rattle.lotos_base.specs.WrittenTerm.{PlacedName}
 use Rattle.lotos_lexer.specs.declared.kinds.TheConstants.{LEFT_PARENTHESIS, RIGHT_PARENTHESIS}
@@ -15,12 +15,12 @@ use Rattle.lotos_rows.specs.Words.{Optional, left_out, there, Between, between}
 use Rattle.lotos_rows.specs.Names.{AreNames}
 use Rattle.lotos_rows.specs.Definitions.{IsWrittenFunctionality, no_exit, exit_of, IsHeading, heading, IsProcess, a_process, IsWhere, no_where, a_where, AreInner, no_more_inner, item_then, process_then}
 use Rattle.lotos_rows.specs.Starts.{IsWrittenSpecification, a_specification}
-use Rattle.scope_parts.specs.Order.{IsOneOf, StandWhollyBefore, Rising, InTurn}
+use Rattle.scope_parts.specs.Order.{IsOneOfPlaces, StandWhollyBefore, Rising, InTurn}
 use Rattle.scope_parts.specs.TermPlaces.{name_places}
 use Rattle.scope_parts.specs.PartPlaces.{variable_places}
 use Rattle.scope_parts.specs.BehaviourPlaces.{behaviour_places, Follows}
 use Rattle.scope_parts.specs.TextOrder.{functionality_places, heading_places, HeadingFollows, definition_places, DefinitionFollows, inner_places, inners_places, InnerFollows, InnersFollow, PlacesRise}
-use Rattle.declaration_laws.proofs.TokenOrder.{Rises, Within, rises_front, rises_back, nothing_within, here_within, in_left, in_right, in_rest, both_within, more_within, before_parts, before_first, nothing_before, one_left, one_right}
+use Rattle.declaration_laws.proofs.TokenOrder.{Rises, Within, rises_front, rises_back, nothing_within, here_within, in_left, in_right, in_rest, both_within, more_within, before_parts, before_first, nothing_before}
 use Rattle.declaration_laws.proofs.TermPlaceLemmas.{names_in, names_rise, optional_gates_in, optional_gates_rise}
 use Rattle.declaration_laws.proofs.PartPlaceLemmas.{parameters_in, parameters_follow}
 use Rattle.declaration_laws.proofs.BehaviourPlaceLemmas.{two_turn, three_turn, behaviour_in, behaviour_follows}
@@ -249,7 +249,7 @@ text_rises (a_specification {specification = first} {word = word} {end = end} {h
 -- ---- items taken out
 
 abbrev Sub : List Place → List Place → Type 0
-Sub ps qs = (p : Place) → IsOneOf p ps → IsOneOf p qs
+Sub ps qs = (p : Place) → IsOneOfPlaces p ps → IsOneOfPlaces p qs
 
 sub_before : (ps qs rs ss : List Place) → Sub ps qs → Sub rs ss → StandWhollyBefore qs ss → StandWhollyBefore ps rs
 sub_before ps qs rs ss one other h p q here later = h p q (one p here) (other q later)
@@ -261,14 +261,14 @@ process_sub : (place : Place) (ds is js : List Place) → Sub is js → Sub (pla
 process_sub place ds is js one p (inl same) = inl same
 process_sub place ds is js one p (inr at) = inr (go (in_either p ds is at))
   where
-    go : IsOneOf p ds ⊎ IsOneOf p is → IsOneOf p (ds ++ js)
+    go : IsOneOfPlaces p ds ⊎ IsOneOfPlaces p is → IsOneOfPlaces p (ds ++ js)
     go (inl here) = one_left p ds js here
     go (inr later) = one_right p ds js (one p later)
 
 both_sub : (ps qs rs ss : List Place) → Sub ps qs → Sub rs ss → Sub (ps ++ rs) (qs ++ ss)
 both_sub ps qs rs ss one other p at = go (in_either p ps rs at)
   where
-    go : IsOneOf p ps ⊎ IsOneOf p rs → IsOneOf p (qs ++ ss)
+    go : IsOneOfPlaces p ps ⊎ IsOneOfPlaces p rs → IsOneOfPlaces p (qs ++ ss)
     go (inl here) = one_left p qs ss (one p here)
     go (inr later) = one_right p qs ss (other p later)
 

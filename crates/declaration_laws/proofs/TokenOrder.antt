@@ -7,8 +7,7 @@ use Rattle.lotos_lexer.specs.declared.tokens.Token.{Token}
 use Rattle.lotos_rows.specs.Names.{place_of}
 use Rattle.scope_parts.specs.ScopeFault.{stands_before}
 use Rattle.behaviour_semantics.specs.WellFormed.{Every}
-use Rattle.scope_parts.specs.Order.{IsOneOf, StandWhollyBefore, Rising, InTurn, joined}
-use Rattle.scope_parts.proofs.FormedDefinitions.{every_both}
+use Rattle.scope_parts.specs.Order.{IsOneOfPlaces, StandWhollyBefore, Rising, joined_places}
 
 -- The place is that of one of the tokens.
 abbrev pub At : Place → List Token → Type 0
@@ -22,7 +21,7 @@ Rises (t ∷ ts) = ((q : Place) → At q ts → stands_before (place_of t) q ≡
 
 -- Each of the places is that of one of the tokens.
 abbrev pub Within : List Place → List Token → Type 0
-Within ps ts = (p : Place) → IsOneOf p ps → At p ts
+Within ps ts = (p : Place) → IsOneOfPlaces p ps → At p ts
 
 -- ---- parts of lists of tokens
 
@@ -66,19 +65,10 @@ in_right ps xs ys h p at = at_right xs ys p (h p at)
 pub in_rest : (ps : List Place) (t : Token) (ts : List Token) → Within ps ts → Within ps (t ∷ ts)
 in_rest ps t ts h p at = inr (h p at)
 
-pub one_left : (p : Place) (ps qs : List Place) → IsOneOf p ps → IsOneOf p (ps ++ qs)
-one_left p [] qs at = absurd at
-one_left p (q ∷ ps) qs (inl same) = inl same
-one_left p (q ∷ ps) qs (inr at) = inr (one_left p ps qs at)
-
-pub one_right : (p : Place) (ps qs : List Place) → IsOneOf p qs → IsOneOf p (ps ++ qs)
-one_right p [] qs at = at
-one_right p (q ∷ ps) qs at = inr (one_right p ps qs at)
-
 pub both_within : (ps qs : List Place) (ts : List Token) → Within ps ts → Within qs ts → Within (ps ++ qs) ts
 both_within ps qs ts one other p at = go (in_either p ps qs at)
   where
-    go : IsOneOf p ps ⊎ IsOneOf p qs → At p ts
+    go : IsOneOfPlaces p ps ⊎ IsOneOfPlaces p qs → At p ts
     go (inl here) = one p here
     go (inr there) = other p there
 
@@ -115,7 +105,7 @@ rising_both (p ∷ ps) qs one other h = (
   rising_both ps qs one.1 other (λ x q here there. h x q (inr here) there),
 )
   where
-    go : (x q : Place) → IsOneOf x (p ∷ []) → IsOneOf q qs → stands_before x q ≡ true
+    go : (x q : Place) → IsOneOfPlaces x (p ∷ []) → IsOneOfPlaces q qs → stands_before x q ≡ true
     go x q (inl same) there = h x q (inl same) there
     go x q (inr at) there = absurd at
 
@@ -149,9 +139,9 @@ before_third ps qs xs ys zs h one other p q here there = apart_third xs ys zs h 
 abbrev pub AllWithin : List (List Place) → List Token → Type 0
 AllWithin pss ts = Every (λ (ps : List Place). Within ps ts) pss
 
-pub joined_within : (pss : List (List Place)) (ts : List Token) → AllWithin pss ts → Within (joined pss) ts
+pub joined_within : (pss : List (List Place)) (ts : List Token) → AllWithin pss ts → Within (joined_places pss) ts
 joined_within [] ts all = nothing_within ts
-joined_within (ps ∷ pss) ts all = both_within ps (joined pss) ts all.0 (joined_within pss ts all.1)
+joined_within (ps ∷ pss) ts all = both_within ps (joined_places pss) ts all.0 (joined_within pss ts all.1)
 
 pub all_in_left : (pss : List (List Place)) (xs ys : List Token) → AllWithin pss xs → AllWithin pss (xs ++ ys)
 all_in_left [] xs ys all = tt
@@ -169,12 +159,3 @@ pub before_all : (ps : List Place) (pss : List (List Place)) (xs ys : List Token
     → Every (StandWhollyBefore ps) pss
 before_all ps [] xs ys h one all = tt
 before_all ps (qs ∷ pss) xs ys h one all = (before_parts ps qs xs ys h one all.0, before_all ps pss xs ys h one all.1)
-
-pub before_joined : (ps : List Place) (pss : List (List Place)) → Every (StandWhollyBefore ps) pss → StandWhollyBefore ps (joined pss)
-before_joined ps [] all = nothing_after ps
-before_joined ps (qs ∷ pss) all = before_both ps qs (joined pss) all.0 (before_joined ps pss all.1)
-
-pub turn_both : (pss qss : List (List Place)) → InTurn pss → InTurn qss → Every (λ (ps : List Place). Every (StandWhollyBefore ps) qss) pss
-    → InTurn (pss ++ qss)
-turn_both [] qss one other h = other
-turn_both (ps ∷ pss) qss one other h = (every_both (StandWhollyBefore ps) pss qss one.0 h.0, turn_both pss qss one.1 other h.1)

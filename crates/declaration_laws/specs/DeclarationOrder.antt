@@ -15,32 +15,32 @@ use Rattle.scope_parts.specs.Definitions.{SpecificationIs, declared_gates}
 -- ---- What the text declares. Its gates are `declared_gates`.
 
 -- the variables that a behaviour declares
-abbrev pub variables_in : WrittenBehaviour → List WrittenVariable
-variables_in (written.stop place) = []
-variables_in (written.exit place values) = []
-variables_in (written.call place name gates values) = []
-variables_in (written.action place gate offers test next) = asked_for offers ++ variables_in next
-variables_in (written.inner_action place next) = variables_in next
-variables_in (written.guard place test next) = variables_in next
-variables_in (written.hide place gates inside) = variables_in inside
-variables_in (written.let_be place values inside) = let_names values ++ variables_in inside
-variables_in (written.choose_value place variables inside) = variables ++ variables_in inside
-variables_in (written.choose_gate place gates inside) = variables_in inside
-variables_in (written.par_gate place gates sign inside) = variables_in inside
-variables_in (written.binary place sign left right) = variables_in left ++ (accepted sign ++ variables_in right)
+abbrev pub declared_variables_in : WrittenBehaviour → List WrittenVariable
+declared_variables_in (written.stop place) = []
+declared_variables_in (written.exit place values) = []
+declared_variables_in (written.call place name gates values) = []
+declared_variables_in (written.action place gate offers test next) = asked_for offers ++ declared_variables_in next
+declared_variables_in (written.inner_action place next) = declared_variables_in next
+declared_variables_in (written.guard place test next) = declared_variables_in next
+declared_variables_in (written.hide place gates inside) = declared_variables_in inside
+declared_variables_in (written.let_be place values inside) = let_names values ++ declared_variables_in inside
+declared_variables_in (written.choose_value place variables inside) = variables ++ declared_variables_in inside
+declared_variables_in (written.choose_gate place gates inside) = declared_variables_in inside
+declared_variables_in (written.par_gate place gates sign inside) = declared_variables_in inside
+declared_variables_in (written.binary place sign left right) = declared_variables_in left ++ (accepted sign ++ declared_variables_in right)
 
 abbrev mutual
   -- the variables that a `where` declares, at any depth
   pub inner_variables : WrittenInner → List WrittenVariable
   inner_variables (inner_item item) = []
-  inner_variables (process heading body inner) = heading.parameters ++ variables_in body ++ inners_variables inner
+  inner_variables (process heading body inner) = heading.parameters ++ declared_variables_in body ++ inners_variables inner
 
   pub inners_variables : WrittenInners → List WrittenVariable
   inners_variables no_inner = []
   inners_variables (inner_then inner others) = inner_variables inner ++ inners_variables others
 
 abbrev pub declared_variables : WrittenSpecification → List WrittenVariable
-declared_variables text = text.heading.parameters ++ variables_in text.body ++ inners_variables (inners_of text.inner)
+declared_variables text = text.heading.parameters ++ declared_variables_in text.body ++ inners_variables (inners_of text.inner)
 
 -- ---- What the specification binds, read from left to right.
 

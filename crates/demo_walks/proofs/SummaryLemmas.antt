@@ -9,11 +9,11 @@ use Rattle.sort_terms.specs.EquationView.{data_of}
 use Rattle.sort_terms.specs.SignatureView.{signature_of}
 use Rattle.sort_terms.specs.declared.equations.Flat.{Flat}
 use Rattle.behaviour_semantics.specs.Label.{Label}
-use Rattle.history_lines.specs.HandedOn.{Progress, opened, basis_over, past_of, progress_of, situation_of, Course, Past, Session, label_of}
+use Rattle.history_lines.specs.HandedOn.{Progress, opened_progress, basis_over, past_of, progress_of, situation_of, Course, Past, Session, label_of}
 use Rattle.history_lines.specs.HandedOn.{Spec}
 use Rattle.demo_walks.specs.DemoWalk.{WalkValues, AreWalkValues, GoesThrough, walk_steps}
 use Rattle.demo_walks.specs.DemoSummary.{IsSummary, entries_seen, sizes_line, summary_text, text_of_last}
-use Rattle.demo_walks.specs.WalkView.{IsOnWalk, reached, written_summary}
+use Rattle.demo_walks.specs.WalkView.{IsOnWalk, walk_reached, written_summary}
 use Rattle.demo_walks.specs.declared.tallies.Tally.{Tally}
 use Rattle.demo_walks.proofs.WalkLemmas.{over_same_spec}
 
@@ -50,41 +50,43 @@ summary_written s0 s1 s2 s3 s4 s5 s6 s7 s8 s9 s10 s11 data_ spec cells tally e1 
 -- what was seen on a walk is what its session has come to
 summary_told : {M : Type 0} (suits : M → Spec → Data → (Term → Term) → Type 0) (data_ : Flat) (canon : Term → Term)
     (session : Session M) (tally : Tally) (cells : ℕ) → IsOnWalk suits (data_of data_) canon session tally
-    → written_summary data_ session.spec cells tally ≡ summary_text (basis_over (data_of data_) canon session.spec) cells (reached session)
+    → written_summary data_ session.spec cells tally
+    ≡ summary_text (basis_over (data_of data_) canon session.spec) cells (walk_reached session)
 summary_told suits data_ canon session tally cells on =
     ap (λ (n : ℕ). codes "demo " ++ decimal cells ++ codes "\n" ++ sizes_line (data_of data_) ++ codes "steps " ++ decimal n
     ++ codes "\nentries " ++ decimal tally.entries ++ codes "\nlast "
     ++ text_of_last (signature_of data_.signature) (map spelling session.spec.gate_names.items) (option_map label_of tally.last)
     ++ codes "\n") on.steps
     ∙ ap (λ (n : ℕ). codes "demo " ++ decimal cells ++ codes "\n" ++ sizes_line (data_of data_) ++ codes "steps "
-    ++ decimal (length (reached session).steps) ++ codes "\nentries " ++ decimal n ++ codes "\nlast "
+    ++ decimal (length (walk_reached session).steps) ++ codes "\nentries " ++ decimal n ++ codes "\nlast "
     ++ text_of_last (signature_of data_.signature) (map spelling session.spec.gate_names.items) (option_map label_of tally.last)
     ++ codes "\n") on.entries
     ∙ ap (λ (l : Option Label). codes "demo " ++ decimal cells ++ codes "\n" ++ sizes_line (data_of data_) ++ codes "steps "
-    ++ decimal (length (reached session).steps) ++ codes "\nentries " ++ decimal (entries_seen (reached session)) ++ codes "\nlast "
+    ++ decimal (length (walk_reached session).steps) ++ codes "\nentries " ++ decimal (entries_seen (walk_reached session))
+    ++ codes "\nlast "
     ++ text_of_last (signature_of data_.signature) (map spelling session.spec.gate_names.items) l ++ codes "\n") on.label
 
 -- a session that has taken no step is one that opens
-opened_so : (course : Course) → course.history.items ≡ [] → progress_of course ≡ opened (progress_of course).situation
+opened_so : (course : Course) → course.history.items ≡ [] → progress_of course ≡ opened_progress (progress_of course).situation
 opened_so course none =
     ap (λ (pasts : List Past). record { situation = situation_of course.state course.menu; steps = map past_of pasts }) none
 
 pub summary_is : {M : Type 0} (suits : M → Spec → Data → (Term → Term) → Type 0) (known : Data) (data_ : Flat)
     (canon another : Term → Term) (first last : Session M) (tally : Tally) (values : WalkValues) (cells : ℕ)
     → first.course.history.items ≡ [] → AreWalkValues known.signature values
-    → GoesThrough (basis_over known canon first.spec) (walk_steps values cells) (reached first) (reached last)
+    → GoesThrough (basis_over known canon first.spec) (walk_steps values cells) (walk_reached first) (walk_reached last)
     → last.spec ≡ first.spec → data_of data_ ≡ known → another ≡ canon → IsOnWalk suits known canon last tally
-    → IsSummary (basis_over known canon first.spec) (reached first).situation cells (written_summary data_ last.spec cells tally)
+    → IsSummary (basis_over known canon first.spec) (walk_reached first).situation cells (written_summary data_ last.spec cells tally)
 summary_is suits known data_ canon another first last tally values cells at_start are leads same_spec same same_canon on = record {
-  last = reached last;
+  last = walk_reached last;
   walk = record {
     values = values;
     values_are = are;
-    leads = subst (λ (p : Progress). GoesThrough (basis_over known canon first.spec) (walk_steps values cells) p (reached last))
+    leads = subst (λ (p : Progress). GoesThrough (basis_over known canon first.spec) (walk_steps values cells) p (walk_reached last))
         (opened_so first.course at_start) leads;
   };
   text_is = over_same_spec known (data_of data_) canon another first.spec last.spec
-      (λ basis. written_summary data_ last.spec cells tally ≡ summary_text basis cells (reached last)) same same_canon same_spec
+      (λ basis. written_summary data_ last.spec cells tally ≡ summary_text basis cells (walk_reached last)) same same_canon same_spec
       (summary_told suits data_ another last tally cells
       (over_same (data_of data_) known another canon (λ (d : Data) (k : Term → Term). IsOnWalk suits d k last tally) (sym same)
       (sym same_canon) on));

@@ -8,7 +8,7 @@ use Rattle.history_lines.specs.HandedOn.{SessionBasis, Item, PastStep, Situation
 use Rattle.history_lines.specs.HandedOn.{basis_over, IsLawfulSession, Session, label_of, Spec}
 use Rattle.demo_walks.specs.DemoWalk.{WalkStep, WalkValues, Goes, GoesThrough, cell_step, round_steps, rounds_steps, is_refused}
 use Rattle.demo_walks.specs.DemoSummary.{entries_before, entries_seen, later_label, last_label}
-use Rattle.demo_walks.specs.WalkView.{IsOnWalk, most_entries, reached}
+use Rattle.demo_walks.specs.WalkView.{IsOnWalk, most_entries, walk_reached}
 use Rattle.demo_walks.specs.declared.tallies.Tally.{Tally}
 
 -- ---- Steps one after another
@@ -82,15 +82,15 @@ bound_more old new menu before after is bounded few more = omega (arith, is, bou
 -- the session has taken a step, and it is noted
 pub still_on_walk : {M : Type 0} (suits : M → Spec → Data → (Term → Term) → Type 0) (data_ : Data) (canon : Term → Term)
     (old new : Session M) (tally noted : Tally) (label : Label) → IsOnWalk suits data_ canon old tally
-    → IsLawfulSession suits data_ canon new → IsOneMore (reached old) (reached new) label
-    → noted.steps ≡ length (reached new).steps → noted.entries ≡ tally.entries + length (reached new).situation.menu
-    → length (reached new).situation.menu ≤ most_entries → option_map label_of noted.last ≡ Some label
+    → IsLawfulSession suits data_ canon new → IsOneMore (walk_reached old) (walk_reached new) label
+    → noted.steps ≡ length (walk_reached new).steps → noted.entries ≡ tally.entries + length (walk_reached new).situation.menu
+    → length (walk_reached new).situation.menu ≤ most_entries → option_map label_of noted.last ≡ Some label
     → IsOnWalk suits data_ canon new noted
 still_on_walk suits data_ canon old new tally noted label on lawful more steps entries few last = record {
   lawful = lawful;
   steps = steps;
-  entries = entries ∙ ap (λ (n : ℕ). n + length (reached new).situation.menu) on.entries ∙ sym more.entries;
-  bounded = bound_more tally.entries noted.entries _ (length (reached old).steps) _ entries on.bounded few more.steps;
+  entries = entries ∙ ap (λ (n : ℕ). n + length (walk_reached new).situation.menu) on.entries ∙ sym more.entries;
+  bounded = bound_more tally.entries noted.entries _ (length (walk_reached old).steps) _ entries on.bounded few more.steps;
   label = last ∙ sym more.last;
 }
 

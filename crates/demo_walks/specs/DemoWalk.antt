@@ -6,7 +6,7 @@ use Rattle.lotos_base.specs.Equation.{Place}
 use Rattle.lotos_base.specs.Signature.{Signature, prefix_form}
 use Rattle.lotos_base.specs.Term.{Term}
 use Rattle.behaviour_semantics.specs.Label.{Label}
-use Rattle.history_lines.specs.HandedOn.{SessionBasis, Situation, Progress, opened, StepRefusal, step_refusal, HasStepped}
+use Rattle.history_lines.specs.HandedOn.{SessionBasis, Situation, Progress, opened_progress, StepRefusal, step_refusal, HasStepped}
 
 -- where terms stand that are in no text
 abbrev pub no_place : Place
@@ -48,12 +48,12 @@ pub record WalkStep : Type 0 where
   pub values : Option (List Term)
 
 -- one value alone
-abbrev pub alone : Term → List Term
-alone value = value ∷ []
+abbrev pub single_value : Term → List Term
+single_value value = value ∷ []
 
 -- a cell puts its value: the entry of the first cell is the second one of the menu, since the first one is that of the store
 abbrev pub cell_step : WalkValues → ℕ → WalkStep
-cell_step values cell = record { number = cell + 2; values = option_map alone (value_of_cell values cell) }
+cell_step values cell = record { number = cell + 2; values = option_map single_value (value_of_cell values cell) }
 
 -- a round: each cell puts its value
 abbrev pub round_steps : WalkValues → (cells : ℕ) → List WalkStep
@@ -100,4 +100,4 @@ GoesThrough basis (step ∷ steps) before after = (next : Progress) × Goes basi
 pub record IsDemoWalk (basis : SessionBasis) (first : Situation) (cells : ℕ) (last : Progress) : Type 0 where
   pub values : WalkValues
   pub values_are : AreWalkValues basis.data_.signature values
-  pub leads : GoesThrough basis (walk_steps values cells) (opened first) last
+  pub leads : GoesThrough basis (walk_steps values cells) (opened_progress first) last

@@ -5,7 +5,7 @@ pub use Rattle.history_lines.specs.Befallen.{Befallen}
 pub use Rattle.history_lines.specs.Beginning.{CanBegin, Beginning, standing_at}
 pub use Rattle.history_lines.specs.HandedOn.{Progress, Situation, first_situation, IsSituation, basis_over, progress_of, pasts_of, Past}
 pub use Rattle.history_lines.specs.HandedOn.{AreSuited, IsKeptState, Session, FreshMenus, specification_of, state_of, Spec, State, past_of}
-pub use Rattle.history_lines.specs.HandedOn.{head_text, Course, usage_text, unread_text, written_menu, Menu, AreGiven, AreRanksOf}
+pub use Rattle.history_lines.specs.HandedOn.{head_text, Course, unread_text, written_menu, Menu, AreGiven, AreRanksOf}
 pub use Rattle.history_lines.specs.HandedOn.{IsLawfulSession, book_canon}
 pub use Rattle.history_lines.specs.LinesView.{standing_of, basis_of, reached, IsServing}
 pub use Rattle.history_lines.specs.Reached.{IsReached}

@@ -18,8 +18,8 @@ use Rattle.demo_walks.specs.declared.values.CellValues.{CellValues}
 use Rattle.demo_walks.specs.declared.tallies.Tally.{Tally}
 
 -- the values of the cells
-abbrev pub values_of : CellValues → WalkValues
-values_of values = record { of_first = option_map term_in values.of_first; of_others = option_map term_in values.of_others }
+abbrev pub walk_values_of : CellValues → WalkValues
+walk_values_of values = record { of_first = option_map term_in values.of_first; of_others = option_map term_in values.of_others }
 
 -- The value is a ground term of the signature.
 pub record IsGivenValue (signature : Signature) (value : Sorted) : Type 0 where
@@ -39,17 +39,17 @@ abbrev pub most_entries : ℕ
 most_entries = 18446744073709551615
 
 -- how far the session has come
-abbrev pub reached : {M : Type 0} → Session M → Progress
-reached session = progress_of session.course
+abbrev pub walk_reached : {M : Type 0} → Session M → Progress
+walk_reached session = progress_of session.course
 
 -- The session is lawful, and the numbers of its steps and of the entries that were seen and its last label are kept.
 pub record IsOnWalk {M : Type 0} (suits : M → Spec → Data → (Term → Term) → Type 0) (data_ : Data) (canon : Term → Term)
     (session : Session M) (tally : Tally) : Type 0 where
   pub lawful : IsLawfulSession suits data_ canon session
-  pub steps : tally.steps ≡ length (reached session).steps
-  pub entries : tally.entries ≡ entries_seen (reached session)
-  pub bounded : tally.entries ≤ (length (reached session).steps + 1) * most_entries
-  pub label : option_map label_of tally.last ≡ last_label (reached session).steps
+  pub steps : tally.steps ≡ length (walk_reached session).steps
+  pub entries : tally.entries ≡ entries_seen (walk_reached session)
+  pub bounded : tally.entries ≤ (length (walk_reached session).steps + 1) * most_entries
+  pub label : option_map label_of tally.last ≡ last_label (walk_reached session).steps
 
 -- the summary by what was seen
 abbrev pub written_summary : Flat → Spec → (cells : ℕ) → Tally → List ℕ

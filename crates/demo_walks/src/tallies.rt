@@ -19,7 +19,7 @@ pub struct Tally {
 }
 
 impl Tally {
-    ghost use Rattle.demo_walks.specs.WalkView.{IsOnWalk, most_entries, reached};
+    ghost use Rattle.demo_walks.specs.WalkView.{IsOnWalk, most_entries, walk_reached};
     ghost use Rattle.history_lines.specs.HandedOn.{IsLawfulSession};
 
     /// What is seen of a session that has taken no step: its menu.
@@ -39,11 +39,11 @@ impl Tally {
 
     /// Notes a step that the session has just taken, with its label.
     pub fn note<M: MenuMaker>(&mut self, session: &Session<M>, label: Label)
-        requires { self.old.entries ≤ length (reached session.now).steps * most_entries }
-        ensures steps { self.new.steps ≡ length (reached session.now).steps }
+        requires { self.old.entries ≤ length (walk_reached session.now).steps * most_entries }
+        ensures steps { self.new.steps ≡ length (walk_reached session.now).steps }
         ensures entries { self.new.entries
-            ≡ self.old.entries + length (reached session.now).situation.menu }
-        ensures few { length (reached session.now).situation.menu ≤ most_entries }
+            ≡ self.old.entries + length (walk_reached session.now).situation.menu }
+        ensures few { length (walk_reached session.now).situation.menu ≤ most_entries }
         ensures last { option_map label_of self.new.last ≡ Some (label_of label) }
     {
         self.steps = session.length();

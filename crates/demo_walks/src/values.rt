@@ -3,7 +3,7 @@
 ghost use Rattle.demo_walks.specs.DemoWalk.{
   AreWalkValues,
   IsValueOf,
-  alone,
+  single_value,
   before_arguments,
   value_of_cell,
   written_nought,
@@ -13,7 +13,7 @@ ghost use Rattle.demo_walks.specs.WalkView.{
   AreGivenValues,
   IsGivenIfAny,
   IsGivenValue,
-  values_of,
+  walk_values_of,
 };
 ghost use Rattle.history_lines.specs.HandedOn.{AreGiven, terms_of};
 ghost use Rattle.lotos_base.specs.Signature.{Signature as PlainSignature};
@@ -40,7 +40,7 @@ impl CellValues {
     /// The values over the signature: 0 for the first cell, and 1 for each other one.
     pub fn read(alloc: Global, signature: &Signature) -> Result<CellValues, NoMemory>
         ensures read { IfOk result
-            (λ values. AreWalkValues (signature_of signature.now) (values_of values)) }
+            (λ values. AreWalkValues (signature_of signature.now) (walk_values_of values)) }
         ensures given { IfOk result (AreGivenValues (signature_of signature.now)) }
     {
         let of_first = value_of(alloc, signature, &nought(alloc)?)?;
@@ -54,7 +54,7 @@ impl CellValues {
     /// The value of the cell with this number, from 0, alone in a list.
     pub fn put_by(&self, alloc: Global, cell: u32) -> Result<Option<Vec<Sorted>>, NoMemory>
         ensures put { IfOk result (λ made. option_map (λ list. terms_of list.items) made
-            ≡ option_map alone (value_of_cell (values_of self.now) cell)) }
+            ≡ option_map single_value (value_of_cell (walk_values_of self.now) cell)) }
         ensures given { (signature : PlainSignature) → AreGivenValues signature self.now
             → IfOk result (λ made. IfSome made (λ list. AreGiven signature list.items)) }
     {
@@ -63,7 +63,8 @@ impl CellValues {
 
     // The value of the cell with this number.
     fn of(&self, cell: u32) -> &Option<Sorted>
-        ensures value { option_map term_in result.now ≡ value_of_cell (values_of self.now) cell }
+        ensures value { option_map term_in result.now
+            ≡ value_of_cell (walk_values_of self.now) cell }
         ensures given { (signature : PlainSignature) → AreGivenValues signature self.now
             → IsGivenIfAny signature result.now }
     {
@@ -78,7 +79,7 @@ impl CellValues {
 // The value alone in a list.
 fn listed(alloc: Global, value: &Option<Sorted>) -> Result<Option<Vec<Sorted>>, NoMemory>
     ensures listed { IfOk result (λ made. option_map (λ list. terms_of list.items) made
-        ≡ option_map alone (option_map term_in value.now)) }
+        ≡ option_map single_value (option_map term_in value.now)) }
     ensures given { (signature : PlainSignature) → IsGivenIfAny signature value.now
         → IfOk result (λ made. IfSome made (λ list. AreGiven signature list.items)) }
 {
@@ -90,7 +91,7 @@ fn listed(alloc: Global, value: &Option<Sorted>) -> Result<Option<Vec<Sorted>>, 
 
 // A list of the value.
 fn list_of(alloc: Global, value: &Sorted) -> Result<Vec<Sorted>, NoMemory>
-    ensures listed { IfOk result (λ list. terms_of list.items ≡ alone (term_in value.now)) }
+    ensures listed { IfOk result (λ list. terms_of list.items ≡ single_value (term_in value.now)) }
     ensures given { (signature : PlainSignature) → IsGivenValue signature value.now
         → IfOk result (λ list. AreGiven signature list.items) }
 {

@@ -8,7 +8,7 @@ ghost use Rattle.demo_walks.specs.DemoWalk.{
   rounds_steps,
   walk_steps,
 };
-ghost use Rattle.demo_walks.specs.WalkView.{AreGivenValues, IsOnWalk, reached, values_of};
+ghost use Rattle.demo_walks.specs.WalkView.{AreGivenValues, IsOnWalk, walk_reached, walk_values_of};
 ghost use Rattle.history_lines.specs.HandedOn.{
   AreGiven,
   KeepsData,
@@ -41,7 +41,8 @@ pub fn walk<M: MenuMaker, D: Deciding>(
     requires given { AreGivenValues (D.known_data data.old).signature values.now }
     ensures leads { OnOk result (GoesThrough
         (basis_over (D.known_data data.old) (D.canon data.old) session.old.spec)
-        (walk_steps (values_of values.now) cells) (reached session.old) (reached session.new)) }
+        (walk_steps (walk_values_of values.now) cells) (walk_reached session.old)
+        (walk_reached session.new)) }
     ensures on_walk_after { OnOk result (IsOnWalk M.suits (D.known_data data.old)
         (D.canon data.old) session.new tally.new) }
     ensures same_spec { session.new.spec ≡ session.old.spec }
@@ -65,7 +66,8 @@ fn rounds<M: MenuMaker, D: Deciding>(
     requires given { AreGivenValues (D.known_data data.old).signature values.now }
     ensures leads { OnOk result (GoesThrough
         (basis_over (D.known_data data.old) (D.canon data.old) session.old.spec)
-        (rounds_steps (values_of values.now) cells 4) (reached session.old) (reached session.new)) }
+        (rounds_steps (walk_values_of values.now) cells 4) (walk_reached session.old)
+        (walk_reached session.new)) }
     ensures on_walk_after { OnOk result (IsOnWalk M.suits (D.known_data data.old)
         (D.canon data.old) session.new tally.new) }
     ensures same_spec { session.new.spec ≡ session.old.spec }
@@ -91,7 +93,8 @@ fn round<M: MenuMaker, D: Deciding>(
     requires given { AreGivenValues (D.known_data data.old).signature values.now }
     ensures leads { OnOk result (GoesThrough
         (basis_over (D.known_data data.old) (D.canon data.old) session.old.spec)
-        (round_steps (values_of values.now) cells) (reached session.old) (reached session.new)) }
+        (round_steps (walk_values_of values.now) cells) (walk_reached session.old)
+        (walk_reached session.new)) }
     ensures on_walk_after { OnOk result (IsOnWalk M.suits (D.known_data data.old)
         (D.canon data.old) session.new tally.new) }
     ensures same_spec { session.new.spec ≡ session.old.spec }
@@ -117,7 +120,8 @@ fn visit<M: MenuMaker, D: Deciding>(
     requires given { AreGivenValues (D.known_data data.old).signature values.now }
     ensures goes { OnOk result (Goes
         (basis_over (D.known_data data.old) (D.canon data.old) session.old.spec)
-        (cell_step (values_of values.now) cell) (reached session.old) (reached session.new)) }
+        (cell_step (walk_values_of values.now) cell) (walk_reached session.old)
+        (walk_reached session.new)) }
     ensures on_walk_after { OnOk result (IsOnWalk M.suits (D.known_data data.old)
         (D.canon data.old) session.new tally.new) }
     ensures same_spec { session.new.spec ≡ session.old.spec }
@@ -142,8 +146,9 @@ fn step<M: MenuMaker, D: Deciding>(
     requires given { AreGiven (D.known_data data.old).signature values.items }
     ensures goes { OnOk result (Goes
         (basis_over (D.known_data data.old) (D.canon data.old) session.old.spec)
-        (record { number = number; values = Some (terms_of values.items) }) (reached session.old)
-        (reached session.new)) }
+        (record { number = number; values = Some (terms_of values.items) })
+        (walk_reached session.old)
+        (walk_reached session.new)) }
     ensures on_walk_after { OnOk result (IsOnWalk M.suits (D.known_data data.old)
         (D.canon data.old) session.new tally.new) }
     ensures same_spec { session.new.spec ≡ session.old.spec }

@@ -1,14 +1,12 @@
 //! What the types of whole texts require.
 
-use crate::showing::shown;
-use lotos_grammar::read_types;
+use direct_terms::{flatten, read_types, requirements, shown};
 use lotos_library::boolean::BOOLEAN;
 use lotos_library::natural_number::NATURAL_NUMBER;
 use sort_terms::{Equation, Flat};
 use std::alloc::Global;
 use std::test::Fail;
 use syntax_trees::ItemText;
-use type_flatten::{flatten, requirements};
 
 // Appends the place of an equation, its variables with their sorts, and its sides.
 fn show(alloc: Global, flat: &Flat, equation: &Equation, out: &mut Vec<u8>) -> Result<(), Fail> {

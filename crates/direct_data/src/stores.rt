@@ -1,10 +1,16 @@
 //! Canonical terms of a store of terms that are kept once, beside the chosen forms that are made
 //! without one.
 
-use crate::data_terms::{one_term, rules_by};
-use equation_book::{Store, all_join};
+ghost use Rattle.equation_book.specs.Joining.{StaysJoined};
+ghost use Rattle.path_order.specs.RulesView.{plain_rules_in, signature_in};
+ghost use Rattle.sort_terms.specs.ProfiledTerm.{IsOf};
+ghost use Rattle.sort_terms.specs.SortedView.{profiled_in};
+
+use crate::rules::{one_term, rules_by};
+use equation_book::{Joined, Store, all_join};
 use lotos_library::boolean::BOOLEAN;
 use lotos_library::natural_number::NATURAL_NUMBER;
+use sort_terms::Sorted;
 use std::alloc::Global;
 use std::test::Fail;
 use term_rewriter::normalise;
@@ -12,17 +18,42 @@ use term_rewriter::normalise;
 // A store over the rules of the types, which join.
 fn store_of(alloc: Global, types: &[u8]) -> Result<Store, Fail> {
     match all_join(alloc, rules_by(alloc, types)?) {
-        Ok(joined) => Ok(Store::open(alloc, joined.rules())?),
+        Ok(joined) => opened(alloc, &joined),
         Err(_) => Err(Fail::from("a pair does not join")),
     }
+}
+
+// A store over the rules.
+fn opened(alloc: Global, joined: &Joined) -> Result<Store, Fail>
+    requires { StaysJoined (plain_rules_in joined.now.rules) }
+{
+    Ok(Store::open(alloc, joined.rules())?)
 }
 
 // Whether the store gives the term the form that it has without one, and finds both the same.
 fn is_alike(alloc: Global, store: &mut Store, text: &str) -> Result<bool, Fail> {
     let term = one_term(alloc, store.rules().signature(), text)?;
-    let form = normalise(alloc, store.rules(), &term)?;
-    let kept = store.canonical_term(&term)?;
-    Ok(kept.same(&form) && store.same(&term, &form)?)
+    is_term_alike(alloc, store, &term)
+}
+
+// The same of a term.
+fn is_term_alike(alloc: Global, store: &mut Store, term: &Sorted) -> Result<bool, Fail>
+    requires { IsOf (signature_in store.old.rules) (profiled_in term.now) }
+{
+    let form = normalise(alloc, store.rules(), term)?;
+    is_its_form(store, term, &form)
+}
+
+// Whether the store gives the term this form, and finds both the same.
+fn is_its_form(store: &mut Store, term: &Sorted, form: &Sorted) -> Result<bool, Fail>
+    requires term { IsOf (signature_in store.old.rules) (profiled_in term.now) }
+    requires form { IsOf (signature_in store.old.rules) (profiled_in form.now) }
+{
+    let kept = store.canonical_term(term)?;
+    if !kept.same(form) {
+        return Ok(false);
+    }
+    Ok(store.same(term, form)?)
 }
 
 // How many of the terms are so.

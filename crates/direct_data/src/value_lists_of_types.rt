@@ -2,8 +2,8 @@
 
 ghost use Rattle.sort_terms.specs.EquationView.{IsSortedFlat};
 
-use crate::data_terms::{data, rules_of};
-use crate::showing::shown;
+use crate::rules::rules_of;
+use direct_terms::{data, push_shown};
 use lotos_library::boolean::BOOLEAN;
 use lotos_library::natural_number::NATURAL_NUMBER;
 use sort_terms::{Flat, Sorted};
@@ -42,17 +42,22 @@ fn count(alloc: Global, types: &[u8], sort: u32, size: u32) -> Result<Option<usi
     }
 }
 
-// Their texts, with ` / ` between.
+// Their texts, or that there are too many.
 fn texts(alloc: Global, types: &[u8], sort: u32, size: u32) -> Result<String, Fail> {
+    match values(alloc, types, sort, size)? {
+        Some(values) => all_shown(alloc, values.as_slice()),
+        None => Ok(String::from_str(alloc, "too many")?),
+    }
+}
+
+// The texts of the values, with ` / ` between.
+fn all_shown(alloc: Global, values: &[Sorted]) -> Result<String, Fail> {
     let mut text = String::new(alloc);
-    let Some(values) = values(alloc, types, sort, size)? else {
-        return Ok(String::from_str(alloc, "too many")?);
-    };
-    for value in values.as_slice() {
+    for value in values {
         if !text.is_empty() {
             text.push_str(" / ")?;
         }
-        text.push_str(shown(alloc, value.term())?.as_str())?;
+        push_shown(alloc, value, &mut text)?;
     }
     Ok(text)
 }

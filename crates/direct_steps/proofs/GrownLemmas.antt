@@ -1,7 +1,7 @@
 -- What is beside `stop` is as closed and well formed as it is alone.
 use Rattle.std.proofs.Common.{◌≡◌, List, sym, subst}
 use Rattle.lotos_base.specs.Signature.{Signature}
-use Rattle.behaviour_semantics.specs.Behaviour.{Behaviour, no_gates, parallel, stop}
+use Rattle.behaviour_semantics.specs.Behaviour.{Behaviour}
 use Rattle.behaviour_semantics.specs.WellFormed.{IsClosedBehaviour}
 use Rattle.sort_terms.specs.ProfiledTerm.{ProfiledTerm}
 use Rattle.behaviour_tree.specs.Closed.{IsClosedNode}
@@ -33,26 +33,4 @@ grown_none state node given is closed same terms h = record {
     terms = subst (λ (ts : List ProfiledTerm). AreTermsOf signature ts) (sym terms)
         (subst (λ (n : Node). AreTermsOf signature (node_profiles n)) (sym is) of.terms);
   };
-}
-
--- One level more.
-pub grown_more : (state : State) (made node : Node) → (IsClosedNode node → IsClosedNode made)
-    → stands_for made ≡ parallel no_gates stop (stands_for node) → node_profiles made ≡ node_profiles node
-    → IsGrown state node → IsGrown state made
-grown_more state made node closed same terms h = record {
-  closed = closed h.closed;
-  lawful = λ signature spec of. record {
-    closed = subst (λ (b : Behaviour). IsClosedBehaviour signature (specification_of spec) b) (sym same)
-        (tt, tt, (h.lawful signature spec of).closed);
-    terms = subst (λ (ts : List ProfiledTerm). AreTermsOf signature ts) (sym terms) (h.lawful signature spec of).terms;
-  };
-}
-
--- The state of the node.
-pub grown_state : (state made : State) (node : Node) → made.node ≡ node → IsGrown state node
-    → (signature : Signature) (spec : Spec) → IsStateOf signature spec state → IsStateOf signature spec made
-grown_state state made node is h signature spec of = record {
-  closed = subst (λ (n : Node). IsClosedBehaviour signature (specification_of spec) (stands_for n)) (sym is)
-      (h.lawful signature spec of).closed;
-  terms = subst (λ (n : Node). AreTermsOf signature (node_profiles n)) (sym is) (h.lawful signature spec of).terms;
 }

@@ -94,9 +94,8 @@ impl Lines for Echo {
         &mut self,
         alloc: Global,
         line: &[u8],
-        shelf: &mut F,
+        _shelf: &mut F,
     ) -> Result<Answer, NoMemory> {
-        let _ = shelf;
         let mut text = Vec::from_slice(alloc, line)?;
         text.push(b'\n')?;
         let quits = line == b"quit".as_slice();

@@ -4,7 +4,7 @@ use Rattle.std.specs.List.{cons_option}
 use Rattle.std.proofs.lemmas.List.{map-append}
 use Rattle.lotos_base.specs.Signature.{Signature}
 use Rattle.lotos_base.specs.Term.{Term, variable, node}
-use Rattle.lotos_base.specs.Sorting.{sort_of}
+use Rattle.lotos_base.specs.Sorting.{head_sort_of}
 use Rattle.lotos_base.specs.Substitution.{Substitution, substituted, renaming}
 use Rattle.behaviour_semantics.specs.Behaviour.{SynchronisationSet}
 use Rattle.behaviour_semantics.specs.Draft.{Draft, draft_with, label_with, leaves_from}
@@ -13,7 +13,7 @@ use Rattle.behaviour_semantics.specs.Label.{Label, inner_event, gate_event, exit
 use Rattle.behaviour_semantics.specs.Listing.{ShapedMove, below, each_below, one_behind, both_below}
 use Rattle.behaviour_semantics.specs.Move.{taken, together}
 use Rattle.behaviour_semantics.specs.Replacement.{test_with}
-use Rattle.behaviour_semantics.specs.Rule.{is_same_sort, have_same_sorts, move_together, synchronises}
+use Rattle.behaviour_semantics.specs.Rule.{is_same_known_sort, have_same_sorts, move_together, synchronises}
 use Rattle.behaviour_semantics.specs.Shape.{both_sides}
 use Rattle.behaviour_semantics.proofs.OptionLemmas.{some_value}
 use Rattle.draft_parts.specs.DraftRules.{open_draft, together_draft}
@@ -24,7 +24,7 @@ use Rattle.draft_parts.specs.HigherLists.{raised_move}
 
 -- ---- Sides meet whatever the numbers of the right variables are.
 module _ (signature : Signature) (f : ℕ → ℕ → ℕ) where
-  sort_renamed : (t : Term) → sort_of signature (substituted (renaming f) t) ≡ sort_of signature t
+  sort_renamed : (t : Term) → head_sort_of signature (substituted (renaming f) t) ≡ head_sort_of signature t
   sort_renamed (variable n s) = refl
   sort_renamed (node g ts) = refl
 
@@ -33,9 +33,10 @@ module _ (signature : Signature) (f : ℕ → ℕ → ℕ) where
   sorts_renamed [] (u ∷ us) = refl
   sorts_renamed (t ∷ ts) [] = refl
   sorts_renamed (t ∷ ts) (u ∷ us) =
-      ap (λ (o : Option ℕ). is_same_sort (sort_of signature t) o && have_same_sorts signature ts (map (substituted (renaming f)) us))
+      ap (λ (o : Option ℕ). is_same_known_sort (head_sort_of signature t) o
+      && have_same_sorts signature ts (map (substituted (renaming f)) us))
       (sort_renamed u)
-      ∙ ap (λ (b : Bool). is_same_sort (sort_of signature t) (sort_of signature u) && b) (sorts_renamed ts us)
+      ∙ ap (λ (b : Bool). is_same_known_sort (head_sort_of signature t) (head_sort_of signature u) && b) (sorts_renamed ts us)
 
   together_renamed : (meet : SynchronisationSet) (label other : Label)
       → move_together signature meet label (label_with (renaming f) other) ≡ move_together signature meet label other

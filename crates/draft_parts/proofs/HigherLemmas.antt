@@ -19,22 +19,8 @@ use Rattle.behaviour_semantics.proofs.ListingLemmas.{listed}
 use Rattle.behaviour_semantics.proofs.ListingSoundness.{are_moves}
 use Rattle.behaviour_semantics.proofs.ListingOrder.{Earlier, Rising, RisingIn, moves_rise}
 use Rattle.behaviour_semantics.proofs.RaisedInside.{later_leaf_inside}
-use Rattle.behaviour_semantics.proofs.ListedOnce.{same_heads, behind}
+use Rattle.behaviour_semantics.proofs.ListedOnce.{same_lists, Inside}
 use Rattle.draft_parts.specs.HigherLists.{raised_move, HigherListsAreRaised}
-
--- ---- Lists whose shapes rise and that have the same members are the same.
-abbrev Inside : List ShapedMove → List ShapedMove → Type 0
-Inside xs ys = (x : ShapedMove) → IsAmong x xs → IsAmong x ys
-
-same_lists : (xs ys : List ShapedMove) → Rising xs → Rising ys → Inside xs ys → Inside ys xs → xs ≡ ys
-same_lists [] [] h k i j = refl
-same_lists [] (y ∷ ys) h k i j = absurd (j y (inl refl))
-same_lists (x ∷ xs) [] h k i j = absurd (i x (inl refl))
-same_lists (x ∷ xs) (y ∷ ys) h k i j =
-    let heads : x ≡ y = same_heads x y xs ys h k (i x (inl refl)) (j y (inl refl)) in
-    let tails : xs ≡ ys = same_lists xs ys h.1 k.1 (λ z a. behind x y z xs ys heads h a (i z (inr a)))
-    (λ z a. behind y x z ys xs (sym heads) k a (j z (inr a))) in
-    ap (λ (z : ShapedMove). z ∷ xs) heads ∙ ap (λ (zs : List ShapedMove). y ∷ zs) tails
 
 -- ---- A list with the variables raised.
 every_earlier : (first shift : ℕ) (x : ShapedMove) (xs : List ShapedMove) → Every (Earlier x) xs

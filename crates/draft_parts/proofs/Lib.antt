@@ -19,5 +19,7 @@ pub mod ScopeLemmas
 pub mod RowLemmas
 pub mod GivenLemmas
 pub mod BelowLemmas
+pub mod TurnedLemmas
+pub mod RowDraftLemmas
 pub mod MadeLemmas
 pub mod HandedOn

@@ -3,7 +3,7 @@ use Rattle.std.proofs.Common.{◌≡◌, ◌<◌, ◌++◌, ℕ, suc, ◌+◌, L
 use Rattle.std.specs.Prelude.{IfSome}
 use Rattle.std.specs.List.{cons_option}
 use Rattle.std.proofs.Math.Seq.{drop-cons}
-use Rattle.std.proofs.lemmas.List.{map-append, reverse-append, reverse-reverse}
+use Rattle.std.proofs.lemmas.List.{map-append, reverse-append}
 use Rattle.lotos_base.specs.Signature.{Signature}
 use Rattle.behaviour_semantics.specs.Draft as plain
 use Rattle.behaviour_semantics.specs.WellFormed.{Every}
@@ -41,16 +41,6 @@ pub record IsHalfMade (signature : Signature) (rule : plain.Draft → Option pla
   pub same : plain_drafts made ++ filter_map rule (plain_drafts (reverse rest)) ≡ filter_map rule (plain_drafts given)
   pub over : Every (HasTermsOf signature) made
   pub left : Every (HasTermsOf signature) (reverse rest)
-
-pub half_begun : (signature : Signature) (rule : plain.Draft → Option plain.Draft) (given rest : List Draft) → rest ≡ reverse given
-    → Every (HasTermsOf signature) given → IsHalfMade signature rule given rest []
-half_begun signature rule given rest e h =
-    let back : reverse rest ≡ given = ap reverse e ∙ reverse-reverse given in
-    record {
-      same = ap (λ (ds : List Draft). filter_map rule (plain_drafts ds)) back;
-      over = tt;
-      left = subst (λ (ds : List Draft). Every (HasTermsOf signature) ds) (sym back) h;
-    }
 
 -- what is left before a draft is taken
 before_taken : (rest left : List Draft) (d : Draft) → rest ≡ left ++ d ∷ [] → reverse rest ≡ d ∷ reverse left

@@ -24,6 +24,8 @@ use Rattle.draft_parts.proofs.PartingLemmas.{alone_same, alone_kept, alone_over,
 use Rattle.draft_parts.specs.HasDrafts.{beside_drafts, gate_drafts, row_drafts}
 use Rattle.draft_parts.specs.Rows.{call_pairs}
 use Rattle.draft_parts.specs.Made.{AreThese}
+use Rattle.draft_parts.specs.RowDrafts.{IsThisSide}
+use Rattle.draft_parts.specs.declared.rows.Side.{Side}
 
 -- one list behind another
 pub two_lists : (signature : Signature) (first second made : List Draft) (ds es : List plain.Draft) → AreThese signature ds first
@@ -206,12 +208,12 @@ row_of_more signature meet first copy a [] e = absurd (e refl)
 row_of_more signature meet first copy a (b ∷ others) e = refl
 
 pub one_copy : (signature : Signature) (meet : SynchronisationSet) (first : ℕ) (copy : ℕ → List plain.Draft) (gates : List ℕ)
-    (i a d : ℕ) (last : Bool) (lefts rest : List plain.Draft) (more : List Draft) → i < length gates → a ≡ get_or gates i d
+    (i a d : ℕ) (last : Bool) (lefts rest : List plain.Draft) (more : Side) → i < length gates → a ≡ get_or gates i d
     → last ≡ eqb (i + 1) (length gates) → lefts ≡ copy a → rest ≡ row_from signature meet first copy (drop (i + 1) gates)
-    → AreThese signature (if last then lefts else beside_drafts signature meet first lefts rest) more
-    → AreThese signature (row_from signature meet first copy (drop i gates)) more
+    → IsThisSide signature first (if last then lefts else beside_drafts signature meet first lefts rest) more
+    → IsThisSide signature first (row_from signature meet first copy (drop i gates)) more
 one_copy signature meet first copy gates i a d last lefts rest more within is when left right h =
-    subst (λ (ds : List plain.Draft). AreThese signature ds more) (by last when) h
+    subst (λ (ds : List plain.Draft). IsThisSide signature first ds more) (by last when) h
   where
     rest_here : drop i gates ≡ a ∷ drop (i + 1) gates
     rest_here = drop-cons gates i d within ∙ (ap (λ (b : ℕ). b ∷ drop (suc i) gates) (sym is)

@@ -3,10 +3,10 @@ use Rattle.std.proofs.Common.{length, arith, subst, ◌≡◌, ℕ, List, [], �
 use Rattle.std.specs.Prelude.{Vec}
 use Rattle.std.specs.declared.alloc.Global.{Global}
 use Rattle.lotos_base.specs.Signature.{Signature}
-use Rattle.lotos_base.specs.Sorting.{sort_of}
+use Rattle.lotos_base.specs.Sorting.{head_sort_of}
 use Rattle.behaviour_semantics.specs.Behaviour.{SynchronisationSet, sorts_of}
 use Rattle.behaviour_semantics.specs.Draft.{Draft}
-use Rattle.behaviour_semantics.specs.Rule.{synchronises, is_same_sort, have_sorts, have_same_sorts, move_together}
+use Rattle.behaviour_semantics.specs.Rule.{synchronises, is_same_known_sort, have_sorts, have_same_sorts, move_together}
 use Rattle.sort_terms.specs.ProfiledTerm.{head_sort}
 use Rattle.sort_terms.specs.SortedView.{profiled_in, term_in}
 use Rattle.sort_terms.specs.declared.equations.Variable.{Variable}
@@ -56,7 +56,7 @@ ends_told signature [] [] h = refl
 ends_told signature [] (s ∷ ss) h = refl
 ends_told signature (v ∷ vs) [] h = refl
 ends_told signature (v ∷ vs) (s ∷ ss) h =
-    ap (λ (o : Option ℕ). is_same_sort o (Some s) && have_sorts signature (terms_of vs) ss) (sort_told signature (profiled_in v) h.0)
+    ap (λ (o : Option ℕ). is_same_known_sort o (Some s) && have_sorts signature (terms_of vs) ss) (sort_told signature (profiled_in v) h.0)
     ∙ ap (λ (b : Bool). nat_eq (head_sort (profiled_in v)) s && b) (ends_told signature vs ss h.1)
 
 -- what a test chooses

@@ -1,8 +1,8 @@
 -- The drafts that labels meet, one by one, and what is left of the right drafts for the later left ones.
-use Rattle.std.proofs.Common.{◌≡◌, ◌<◌, ◌≤◌, ◌++◌, ℕ, zero, suc, ◌+◌, List, [], ◌∷◌, map, filter_map, length, drop, set, reverse, get_or, None, Some, Bool, true, false, ◌||◌, if◌then◌else◌, refl, ap, sym, ◌∙◌, subst, add-one, append_assoc, append-nil, arith}
+use Rattle.std.proofs.Common.{◌≡◌, ◌<◌, ◌++◌, ℕ, zero, suc, ◌+◌, List, [], ◌∷◌, map, filter_map, length, drop, set, reverse, get_or, None, Some, Bool, true, false, if◌then◌else◌, refl, ap, sym, ◌∙◌, subst, add-one, append_assoc, append-nil, arith}
 use Rattle.std.specs.List.{cons_option}
 use Rattle.std.proofs.Math.Seq.{drop-cons}
-use Rattle.std.proofs.lemmas.List.{map-append, reverse-append, reverse-reverse, length-map, drop-set-lt, length-set, drop_all}
+use Rattle.std.proofs.lemmas.List.{map-append, reverse-append, length-map, drop-set-lt, length-set}
 use Rattle.std.proofs.lemmas.Bool.{or_parts}
 use Rattle.lotos_base.specs.Signature.{Signature}
 use Rattle.lotos_base.specs.Substitution.{Substitution}
@@ -14,11 +14,7 @@ use Rattle.behaviour_semantics.proofs.ListLemmas.{Every-append}
 use Rattle.behaviour_tree.specs.declared.moves.Label.{Label}
 use Rattle.behaviour_tree.specs.declared.moves.Label.TheVariants.{Inner, Gate, Exit}
 use Rattle.sort_terms.specs.SortedView.{term_in}
-use Rattle.sort_terms.specs.declared.sorted.Sorted.{Sorted}
-use Rattle.behaviour_tree.specs.BehaviourTerms.{profiles_of}
-use Rattle.behaviour_tree.specs.Over.{AreTermsOf}
-use Rattle.event_offers.specs.OfferView.{condition_profiles, label_profiles, plain_draft}
-use Rattle.event_offers.specs.Offers.{AreConditionsOf}
+use Rattle.event_offers.specs.OfferView.{plain_draft}
 use Rattle.event_offers.specs.declared.drafts.Draft.{Draft}
 use Rattle.draft_parts.specs.DraftTerms.{HasTermsOf}
 use Rattle.draft_parts.specs.Meeting.{meet_told}
@@ -68,7 +64,7 @@ met_are_both signature meet first (left ∷ lefts) rights h k =
     (plain_draft left)) (plain_drafts rights) ++ ds) (met_are_both signature meet first lefts rights h.1 k)
 
 -- ---- The left drafts are taken one by one from the end of the list, which was reversed.
-Every-reverse : {X : Type 0} (P : X → Type 0) (xs : List X) → Every P xs → Every P (reverse xs)
+pub Every-reverse : {X : Type 0} (P : X → Type 0) (xs : List X) → Every P xs → Every P (reverse xs)
 Every-reverse P [] h = tt
 Every-reverse P (x ∷ xs) h =
     subst (λ ys. Every P ys) (sym (reverse-append (x ∷ []) xs))
@@ -87,20 +83,6 @@ pub record AreHalfMet (meet : SynchronisationSet) (first : ℕ) (lefts rights re
   pub same : plain_drafts made ++ met_lists meet first (reverse rest) others ≡ met_lists meet first lefts rights
   pub over : (signature : Signature) → Every (HasTermsOf signature) lefts → Every (HasTermsOf signature) rights
       → Every (HasTermsOf signature) made × Every (HasTermsOf signature) (reverse rest) × Every (HasTermsOf signature) others
-
-pub half_begun : (meet : SynchronisationSet) (first : ℕ) (lefts rights rest made : List Draft) → made ≡ [] → rest ≡ reverse lefts
-    → AreHalfMet meet first lefts rights rest rights made
-half_begun meet first lefts rights rest made none e =
-    let back : reverse rest ≡ lefts = ap reverse e ∙ reverse-reverse lefts in
-    record {
-      same = ap (λ (ds : List Draft). plain_drafts ds ++ met_lists meet first (reverse rest) rights) none
-          ∙ ap (λ (ds : List Draft). met_lists meet first ds rights) back;
-      over = λ signature h k. (
-        subst (λ (ds : List Draft). Every (HasTermsOf signature) ds) (sym none) tt,
-        subst (λ (ds : List Draft). Every (HasTermsOf signature) ds) (sym back) h,
-        k,
-      );
-    }
 
 -- what is left before a draft is taken
 before_taken : (rest left : List Draft) (d : Draft) → rest ≡ left ++ d ∷ [] → reverse rest ≡ d ∷ reverse left
@@ -167,16 +149,16 @@ met_set meet label (x ∷ drafts) (suc i) d e within is same =
     ∙ (ap (λ (ds : List plain.Draft). met_of meet label (x ∷ []) ++ ds) (met_set meet label drafts i d e (omega arith) is same)
     ∙ sym (met_cons meet label x drafts))
 
-pub over_set : (P : Draft → Type 0) (drafts : List Draft) (i : ℕ) (e : Draft) → Every P drafts → P e → Every P (set drafts i e)
+pub over_set : {X : Type 0} (P : X → Type 0) (items : List X) (i : ℕ) (e : X) → Every P items → P e → Every P (set items i e)
 over_set P [] i e h p = tt
-over_set P (x ∷ drafts) zero e h p = (p, h.1)
-over_set P (x ∷ drafts) (suc i) e h p = (h.0, over_set P drafts i e h.1 p)
+over_set P (x ∷ items) zero e h p = (p, h.1)
+over_set P (x ∷ items) (suc i) e h p = (h.0, over_set P items i e h.1 p)
 
-pub over_at : (P : Draft → Type 0) (drafts : List Draft) (i : ℕ) (d : Draft) → i < length drafts → d ≡ get_or drafts i d
-    → Every P drafts → P d
-over_at P [] i d within is h = absurd (omega arith)
-over_at P (x ∷ drafts) zero d within is h = subst P (sym is) h.0
-over_at P (x ∷ drafts) (suc i) d within is h = over_at P drafts i d (omega arith) is h.1
+pub over_at : {X : Type 0} (P : X → Type 0) (items : List X) (i : ℕ) (x : X) → i < length items → x ≡ get_or items i x
+    → Every P items → P x
+over_at P [] i x within is h = absurd (let never : i < 0 = within in omega arith)
+over_at P (y ∷ items) zero x within is h = subst P (sym is) h.0
+over_at P (y ∷ items) (suc i) x within is h = over_at P items i x (omega arith) is h.1
 
 kept_more : (meet : SynchronisationSet) (given now : List Draft) (i : ℕ) (d e : Draft) (later : List Draft) → i < length now
     → d ≡ get_or now i d → Every (IsSameFor meet d e) later → Every (AreSameFor meet given now) later
@@ -197,15 +179,6 @@ pub record AreMetSoFar (meet : SynchronisationSet) (label : Label) (later given 
 all_same : (meet : SynchronisationSet) (given later : List Draft) → Every (AreSameFor meet given given) later
 all_same meet given [] = tt
 all_same meet given (left ∷ later) = (refl, all_same meet given later)
-
-pub met_begun : (meet : SynchronisationSet) (label : Label) (later given made : List Draft) → made ≡ []
-    → AreMetSoFar meet label later given given made 0
-met_begun meet label later given made none = record {
-  same = ap (λ (ds : List Draft). plain_drafts ds ++ met_of meet label given) none;
-  count = refl;
-  over = λ signature h. (subst (λ (ds : List Draft). Every (HasTermsOf signature) ds) (sym none) tt, h);
-  kept = all_same meet given later;
-}
 
 pub here_is : (drafts : List Draft) (i : ℕ) (d : Draft) → i < length drafts → d ≡ get_or drafts i d
     → drop i drafts ≡ d ∷ drop (suc i) drafts
@@ -263,12 +236,6 @@ one_at [] i d e within is at = absurd (omega arith)
 one_at (x ∷ drafts) zero d e within is at = is ∙ sym at
 one_at (x ∷ drafts) (suc i) d e within is at = one_at drafts i d e (omega arith) is at
 
-pub met_done : (meet : SynchronisationSet) (label : Label) (later given now made : List Draft) (i : ℕ) → length now ≤ i
-    → AreMetSoFar meet label later given now made i → plain_drafts made ≡ met_of meet label given
-met_done meet label later given now made i past h =
-    sym (append-nil (plain_drafts made))
-    ∙ (ap (λ (ds : List Draft). plain_drafts made ++ met_of meet label ds) (sym (drop_all i now past)) ∙ h.same)
-
 -- ---- A right draft that no later left one meets, and none of which is left.
 pub copy_same : (meet : SynchronisationSet) (right : Draft) (later : List Draft) → Every (IsSameFor meet right right) later
 copy_same meet right later = all_same meet (right ∷ []) later
@@ -290,22 +257,6 @@ taken_same meet right left_ (left ∷ later) inner e =
           ∙ sym (ap (λ (b : Bool). if b then plain_draft right ∷ [] else []) parts.0),
       taken_same meet right left_ later inner parts.1,
     )
-
-pub inner_over : (signature : Signature) (d : Draft) → d.label ≡ Inner → d.leaves.items ≡ [] → d.conditions.items ≡ []
-    → HasTermsOf signature d
-inner_over signature d label leaves conditions = record {
-  values = subst (λ (l : Label). AreTermsOf signature (label_profiles l)) (sym label) tt;
-  leaves = subst (λ (ts : List Sorted). AreTermsOf signature (profiles_of ts)) (sym leaves) tt;
-  conditions = subst (λ (ps : List (Sorted × Sorted)). AreConditionsOf signature (condition_profiles ps)) (sym conditions) tt;
-}
-
--- whether a left draft meets a label, looked for from the end
-pub one_unmet : (meet : SynchronisationSet) (label : Label) (lefts : List Draft) (i : ℕ) (d : Draft) → i < length lefts
-    → d ≡ get_or lefts i d → meet_told meet d.label label ≡ false → is_met_by meet label (drop (suc i) lefts) ≡ false
-    → is_met_by meet label (drop i lefts) ≡ false
-one_unmet meet label lefts i d within is apart h =
-    ap (is_met_by meet label) (here_is lefts i d within is)
-    ∙ (ap (λ (b : Bool). b || is_met_by meet label (drop (suc i) lefts)) apart ∙ h)
 
 -- ---- Copies of the left draft with one right draft after the other.
 pub record AreCopiedSoFar (left : Draft) (values : Substitution) (before given rest made : List Draft) : Type 0 where

@@ -1,15 +1,9 @@
 -- Terms of an environment put in: they are of the signature, and what is put in is the environment.
-use Rattle.std.proofs.Common.{◌≡◌, ◌++◌, ℕ, List, [], ◌∷◌, Bool, true, false, nat_eq, if◌then◌else◌, sym, subst}
-use Rattle.std.proofs.lemmas.List.{map-append}
-use Rattle.behaviour_semantics.proofs.ListLemmas.{Every-append}
+use Rattle.std.proofs.Common.{ℕ, List, [], ◌∷◌, Bool, true, false, nat_eq, if◌then◌else◌}
 use Rattle.lotos_base.specs.Signature.{Signature, IsSort}
 use Rattle.sort_terms.specs.ProfiledTerm.{ProfiledTerm, IsOf}
-use Rattle.sort_terms.specs.SortedView.{profiled_in}
-use Rattle.sort_terms.specs.declared.sorted.Sorted.{Sorted}
 use Rattle.term_match.specs.ProfiledInstance.{profiled_instance, profiled_binding}
 use Rattle.term_match.proofs.InstanceLemmas.{instance_of}
-use Rattle.behaviour_tree.specs.BehaviourTerms.{profiles_of}
-use Rattle.behaviour_tree.specs.Over.{AreTermsOf}
 use Rattle.event_offers.proofs.RenamingLemmas.{occurring_sort}
 use Rattle.draft_parts.specs.Environments.{ArePairsOf, IsReadyForPairs}
 
@@ -27,11 +21,3 @@ pub ready_of : (signature : Signature) (pairs : List (ℕ × ProfiledTerm)) (t :
 ready_of signature pairs t r =
     instance_of signature (profiled_binding pairs) t r.term
     (λ n s o. pairs_give signature pairs r.values n s (occurring_sort signature t r.term n s o))
-
--- one more term of the signature
-pub more_of : (signature : Signature) (old more : List Sorted) (t : Sorted) → more ≡ old ++ t ∷ [] → AreTermsOf signature (profiles_of old)
-    → IsOf signature (profiled_in t) → AreTermsOf signature (profiles_of more)
-more_of signature old more t m h k =
-    subst (λ (ts : List Sorted). AreTermsOf signature (profiles_of ts)) (sym m)
-    (subst (AreTermsOf signature) (sym (map-append profiled_in old (t ∷ [])))
-    (Every-append (IsOf signature) (profiles_of old) (profiled_in t ∷ []) h (k, tt)))

@@ -1,7 +1,6 @@
 -- A draft of a move alone meets nothing, and one that may meet makes no move alone.
-use Rattle.std.proofs.Common.{◌≡◌, ◌<◌, ◌++◌, ℕ, suc, ◌+◌, List, [], ◌∷◌, length, filter, filter_map, drop, get_or, Option, None, Some, Bool, true, false, ◌&&◌, nat_eq, if◌then◌else◌, refl, ap, sym, ◌∙◌, subst, add-one}
+use Rattle.std.proofs.Common.{◌≡◌, ◌++◌, ℕ, List, [], ◌∷◌, length, filter, filter_map, Option, None, Some, Bool, true, false, ◌&&◌, nat_eq, if◌then◌else◌, refl, ap, sym, ◌∙◌}
 use Rattle.std.specs.List.{cons_option}
-use Rattle.std.proofs.Math.Seq.{drop-cons}
 use Rattle.std.proofs.lemmas.Bool.{eqb-true, not-true}
 use Rattle.lotos_base.specs.Signature.{Signature}
 use Rattle.lotos_base.specs.Substitution.{Substitution}
@@ -20,7 +19,7 @@ use Rattle.draft_parts.specs.DraftRules.{alone_draft, draft_within}
 use Rattle.draft_parts.specs.Lists.{both_lists, meet_each, plain_drafts}
 use Rattle.draft_parts.specs.Parting.{alone_among, meeting_among}
 
-left_apart : (signature : Signature) (meet : SynchronisationSet) (l r : Label) → moves_alone meet l ≡ true
+pub left_apart : (signature : Signature) (meet : SynchronisationSet) (l r : Label) → moves_alone meet l ≡ true
     → move_together signature meet l r ≡ false
 left_apart signature meet inner_event r e = refl
 left_apart signature meet (gate_event g us) inner_event e = refl
@@ -33,7 +32,7 @@ left_apart signature meet (gate_event g us) (gate_event k vs) e =
     go false = refl
 left_apart signature meet (exit_event us) r e = absurd (cc e)
 
-right_apart : (signature : Signature) (meet : SynchronisationSet) (l r : Label) → moves_alone meet r ≡ true
+pub right_apart : (signature : Signature) (meet : SynchronisationSet) (l r : Label) → moves_alone meet r ≡ true
     → move_together signature meet l r ≡ false
 right_apart signature meet inner_event r e = refl
 right_apart signature meet (gate_event g us) inner_event e = refl
@@ -90,23 +89,6 @@ alone_filtered meet (d ∷ drafts) =
 pub record AreAloneIf (meet : SynchronisationSet) (rest drafts : List Draft) : Type 0 where
   pub alone : rest ≡ alone_among meet rest → drafts ≡ alone_among meet drafts
   pub meeting : [] ≡ meeting_among meet rest → [] ≡ meeting_among meet drafts
-
-pub one_alone : (meet : SynchronisationSet) (drafts : List Draft) (i : ℕ) (d : Draft) → i < length drafts → d ≡ get_or drafts i d
-    → moves_alone meet (label_of d.label) ≡ true → AreAloneIf meet (drop i drafts) drafts → AreAloneIf meet (drop (i + 1) drafts) drafts
-one_alone meet drafts i d within is moves h =
-    let here : drop i drafts ≡ d ∷ drop (suc i) drafts =
-    drop-cons drafts i d within ∙ ap (λ (y : Draft). y ∷ drop (suc i) drafts) (sym is) in
-    let next : drop (suc i) drafts ≡ drop (i + 1) drafts = ap (λ (j : ℕ). drop j drafts) (sym (add-one i)) in
-    subst (λ (ds : List Draft). AreAloneIf meet ds drafts) next (go (drop (suc i) drafts)
-    (subst (λ (ds : List Draft). AreAloneIf meet ds drafts) here h))
-  where
-    go : (rest : List Draft) → AreAloneIf meet (d ∷ rest) drafts → AreAloneIf meet rest drafts
-    go rest k = record {
-      alone = λ e. k.alone (ap (λ (ds : List Draft). d ∷ ds) e
-          ∙ ap (λ (b : Bool). if b then d ∷ alone_among meet rest else alone_among meet rest) (sym moves));
-      meeting = λ e. k.meeting (e
-          ∙ ap (λ (b : Bool). if b then meeting_among meet rest else d ∷ meeting_among meet rest) (sym moves));
-    }
 
 module _ (signature : Signature) (meet : SynchronisationSet) where
   -- what a left draft makes with a right one, by whether they move together

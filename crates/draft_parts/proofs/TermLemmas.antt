@@ -49,3 +49,16 @@ both_over signature left right made r values leaves conditions h k = record {
       (renamed_pairs_of signature r (condition_profiles right.conditions.items) k.conditions))
       (zipped_of signature (label_profiles left.label) _ h.values (renamed_terms_of signature r (label_profiles right.label) k.values)));
 }
+
+-- other numbers for the variables
+pub renamed_over : (signature : Signature) (draft made : Draft) (r : Renaming)
+    → label_profiles made.label ≡ map (profiled_instance (profiled_renaming_of r)) (label_profiles draft.label)
+    → profiles_of made.leaves.items ≡ map (profiled_instance (profiled_renaming_of r)) (profiles_of draft.leaves.items)
+    → condition_profiles made.conditions.items ≡ map (pair_instance (profiled_renaming_of r)) (condition_profiles draft.conditions.items)
+    → HasTermsOf signature draft → HasTermsOf signature made
+renamed_over signature draft made r values leaves conditions h = record {
+  values = subst (AreTermsOf signature) (sym values) (renamed_terms_of signature r (label_profiles draft.label) h.values);
+  leaves = subst (AreTermsOf signature) (sym leaves) (renamed_terms_of signature r (profiles_of draft.leaves.items) h.leaves);
+  conditions = subst (AreConditionsOf signature) (sym conditions)
+      (renamed_pairs_of signature r (condition_profiles draft.conditions.items) h.conditions);
+}

@@ -13,8 +13,8 @@ use Rattle.behaviour_tree.specs.declared.behaviours.ExitValue.{ExitValue}
 use Rattle.behaviour_tree.specs.declared.behaviours.ExitValue.TheVariants as exit_value
 
 -- What the pairs put for each variable of the term has the sort of that variable.
-abbrev pub Suits : List (ℕ × ProfiledTerm) → ProfiledTerm → Type 0
-Suits pairs t = (n s : ℕ) → Occurs n s (bare t) → head_sort (profiled_binding pairs n s) ≡ s
+abbrev pub SuitsPairs : List (ℕ × ProfiledTerm) → ProfiledTerm → Type 0
+SuitsPairs pairs t = (n s : ℕ) → Occurs n s (bare t) → head_sort (profiled_binding pairs n s) ≡ s
 
 -- The terms of the pairs are of the signature.
 abbrev pub ArePairsOf : Signature → List (ℕ × ProfiledTerm) → Type 0
@@ -24,12 +24,12 @@ ArePairsOf signature pairs = Every (λ (pair : ℕ × ProfiledTerm). IsOf signat
 pub record IsReadyForPairs (signature : Signature) (pairs : List (ℕ × ProfiledTerm)) (t : ProfiledTerm) : Type 0 where
   pub term : IsOf signature t
   pub values : ArePairsOf signature pairs
-  pub sorts : Suits pairs t
+  pub sorts : SuitsPairs pairs t
 
 -- Both sides of a test are suited, if there is one.
 abbrev pub SuitsTest : List (ℕ × ProfiledTerm) → Option Test → Type 0
 SuitsTest pairs None = Unit {0}
-SuitsTest pairs (Some test) = Suits pairs (profiled_in test.left) × Suits pairs (profiled_in test.right)
+SuitsTest pairs (Some test) = SuitsPairs pairs (profiled_in test.left) × SuitsPairs pairs (profiled_in test.right)
 
 -- Offers and values of `exit` are ready.
 abbrev pub IsOfferReady : Signature → List (ℕ × ProfiledTerm) → Offer → Type 0

@@ -19,6 +19,8 @@ pub mod EnvironmentRaises
 pub mod FormLaws
 pub mod ScopeLaws
 pub mod Rows
+pub mod TurnedDrafts
+pub mod RowDrafts
 pub mod RowLaws
 pub mod BelowLaws
 pub mod Made

@@ -15,5 +15,5 @@ pub record AreThese (signature : Signature) (expected : List plain.Draft) (made 
   pub over : Every (HasTermsOf signature) made
 
 -- the draft of `i`
-abbrev pub inner_of : plain.Draft
-inner_of = record { shape = inner_step; label = inner_event; leaves = []; conditions = [] }
+abbrev pub draft_of_inner : plain.Draft
+draft_of_inner = record { shape = inner_step; label = inner_event; leaves = []; conditions = [] }

@@ -1,6 +1,6 @@
 //! Terms under environments.
 
-ghost use Rattle.draft_parts.specs.Environments.{IsReadyForPairs, Suits};
+ghost use Rattle.draft_parts.specs.Environments.{IsReadyForPairs, SuitsPairs};
 ghost use Rattle.behaviour_semantics.specs.WellFormed.{Every};
 ghost use Rattle.behaviour_tree.specs.BehaviourTerms.{profiles_of};
 ghost use Rattle.behaviour_tree.specs.StateView.{environment_of, pair_profile};
@@ -18,7 +18,7 @@ use sort_terms::{Deciding, Sorted, Term};
 
 /// The term with those of the environment put for its variables.
 pub fn placed(environment: &Vec<(u64, Sorted)>, term: &Sorted) -> Result<Sorted, NoMemory>
-    requires { Suits (profiled_pairs environment.now.items) (profiled_in term.now) }
+    requires { SuitsPairs (profiled_pairs environment.now.items) (profiled_in term.now) }
     ensures same { IfOk result (λ t. term_in t
         ≡ substituted (binding (environment_of environment.now.items)) (term_in term.now)) }
     ensures over { IfOk result (λ t. (signature : Signature)

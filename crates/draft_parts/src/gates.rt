@@ -6,11 +6,13 @@ ghost use Rattle.draft_parts.specs.Lists.{plain_drafts};
 ghost use Rattle.draft_parts.specs.HasDrafts.{beside_drafts, gate_drafts, row_drafts};
 ghost use Rattle.draft_parts.specs.DraftTerms.{HasTermsOf};
 ghost use Rattle.draft_parts.specs.Made.{AreThese};
+ghost use Rattle.draft_parts.specs.RowDrafts.{IsRowSideOf, IsThisSide, side_drafts};
 ghost use Rattle.draft_parts.specs.Rows.{call_pairs, calls_copied, copied};
 ghost use Rattle.std.specs.Prelude.{◌≡◌, if◌then◌else◌, IfOk};
 ghost use Rattle.lotos_base.specs.Signature.{Signature};
 
-use crate::parts::{beside, draft_copies};
+use crate::parts::draft_copies;
+use crate::rows::Side;
 use crate::rules::gate_under;
 use crate::{Rule, Variant};
 use behaviour_tree::Meet;
@@ -61,7 +63,7 @@ pub fn copies_beside(
 {
     let alloc = *gates.allocator();
     let mut at = gates.len();
-    let mut made = Vec::new(alloc);
+    let mut made = Side::Drafts(Vec::new(alloc));
     while at > 0 {
         at -= 1;
         let pairs = [(formal, gates[at])];
@@ -69,7 +71,7 @@ pub fn copies_beside(
         let copy = Rule::Relabelled(&pairs, Variant::Relabelled).apply_to_all(copies)?;
         made = joined(copy, made, meet, first, at + 1 == gates.len())?;
     }
-    Ok(made)
+    made.drafts(first)
 }
 
 /// The drafts of a gate `par` of a call, from those of the body of its process.
@@ -89,7 +91,7 @@ pub fn calls_beside(
 {
     let alloc = *gates.allocator();
     let mut at = gates.len();
-    let mut made = Vec::new(alloc);
+    let mut made = Side::Drafts(Vec::new(alloc));
     while at > 0 {
         at -= 1;
         let pairs = call.relabelled(alloc, &[(formal, gates[at])])?;
@@ -97,27 +99,28 @@ pub fn calls_beside(
         let copy = Rule::Relabelled(pairs.as_slice(), Variant::Called).apply_to_all(copies)?;
         made = joined(copy, made, meet, first, at + 1 == gates.len())?;
     }
-    Ok(made)
+    made.drafts(first)
 }
 
 // The drafts of the left one with those of the rest, or the left ones alone where they are the
 // last.
 fn joined(
     lefts: Vec<Draft>,
-    rest: Vec<Draft>,
+    rest: Side,
     meet: &Meet,
     first: u64,
     last: bool,
-) -> Result<Vec<Draft>, NoMemory>
+) -> Result<Side, NoMemory>
     ensures { IfOk result (λ made. (signature : Signature)
-        → Every (HasTermsOf signature) lefts.items → Every (HasTermsOf signature) rest.items
-        → AreThese signature (if last then plain_drafts lefts.items else beside_drafts signature
-        (meet_of meet.now) first (plain_drafts lefts.items) (plain_drafts rest.items)) made.items) }
+        → Every (HasTermsOf signature) lefts.items → IsRowSideOf signature rest
+        → IsThisSide signature first (if last then plain_drafts lefts.items else beside_drafts
+        signature (meet_of meet.now) first (plain_drafts lefts.items) (side_drafts first rest))
+        made) }
 {
     if last {
-        return Ok(lefts);
+        return Ok(Side::of(lefts));
     }
-    beside(lefts, rest, meet, first)
+    rest.beside(lefts, meet, first)
 }
 
 /// The gates of a call: the formal ones of its process, and the actual ones.

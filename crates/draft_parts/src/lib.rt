@@ -16,9 +16,11 @@ pub mod meeting;
 pub mod offers;
 pub mod parting;
 pub mod parts;
+pub mod rows;
 pub mod rule;
 pub mod rules;
 pub mod sides;
+pub mod turned;
 pub mod variants;
 
 pub use actions::action_draft;

@@ -6,7 +6,7 @@ ghost use Rattle.draft_parts.specs.Lists.{plain_drafts};
 ghost use Rattle.event_offers.specs.OfferView.{plain_draft};
 ghost use Rattle.draft_parts.specs.HasDrafts.{beside_drafts, either_drafts};
 ghost use Rattle.draft_parts.specs.DraftTerms.{HasTermsOf};
-ghost use Rattle.draft_parts.specs.Made.{AreThese, inner_of};
+ghost use Rattle.draft_parts.specs.Made.{AreThese, draft_of_inner};
 ghost use Rattle.std.specs.Prelude.{◌≡◌, ◌∷◌, ◌++◌, [], IfOk};
 ghost use Rattle.lotos_base.specs.Signature.{Signature};
 
@@ -29,7 +29,7 @@ pub fn one(alloc: Global, draft: Draft) -> Result<Vec<Draft>, NoMemory>
 
 /// The draft of `i`.
 pub fn inner_draft(alloc: Global) -> Draft
-    ensures same { plain_draft result ≡ inner_of }
+    ensures same { plain_draft result ≡ draft_of_inner }
     ensures over { (signature : Signature) → HasTermsOf signature result }
 {
     Draft {

@@ -9,8 +9,8 @@ use Rattle.behaviour_semantics.specs.Replacement.{test_with}
 use Rattle.behaviour_semantics.specs.Draft as plain
 use Rattle.behaviour_semantics.specs.Draft.{label_with}
 use Rattle.behaviour_semantics.specs.Solving as solving
-use Rattle.behaviour_semantics.specs.Solving.{entry_of, variables_left, place_of}
-use Rattle.draft_solving.specs.Variables.{leaf_sorts, places_in, found_sorts}
+use Rattle.behaviour_semantics.specs.Solving.{entry_of, variables_left, place_of_number}
+use Rattle.draft_solving.specs.Variables.{leaf_sorts, places_by_sorts, found_sorts}
 use Rattle.draft_solving.proofs.VariableLemmas.{renumbered_by_places, sorts_told}
 
 module _ (draft : plain.Draft) (entry : solving.Entry) (places : List ℕ) (values : Substitution) where
@@ -18,10 +18,10 @@ module _ (draft : plain.Draft) (entry : solving.Entry) (places : List ℕ) (valu
   kept = variables_left 0 draft.leaves draft.leaves
 
   abbrev renumbered : Substitution
-  renumbered n s = variable (place_of 0 (variables_left 0 draft.leaves draft.leaves) n) s
+  renumbered n s = variable (place_of_number 0 (variables_left 0 draft.leaves draft.leaves) n) s
 
   pub entry_is : values ≡ renaming (λ n s. unwrap_or (slice_get places n) n)
-      → places ≡ places_in 0 0 (leaf_sorts 0 draft.leaves draft.leaves) → entry.shape ≡ draft.shape
+      → places ≡ places_by_sorts 0 0 (leaf_sorts 0 draft.leaves draft.leaves) → entry.shape ≡ draft.shape
       → entry.variables ≡ found_sorts (leaf_sorts 0 draft.leaves draft.leaves) → entry.label ≡ label_with values draft.label
       → entry.leaves ≡ map (substituted values) draft.leaves → entry.conditions ≡ map (test_with values) draft.conditions
       → entry ≡ entry_of draft
@@ -37,7 +37,7 @@ module _ (draft : plain.Draft) (entry : solving.Entry) (places : List ℕ) (valu
       conditions ∙ ap (λ (v : Substitution). map (test_with v) draft.conditions) same in
       λ i. record { shape = e_shape i; label = e_label i; variables = e_variables i; leaves = e_leaves i; conditions = e_conditions i }
     where
-      at : (n : ℕ) → unwrap_or (slice_get places n) n ≡ place_of 0 (variables_left 0 draft.leaves draft.leaves) n
+      at : (n : ℕ) → unwrap_or (slice_get places n) n ≡ place_of_number 0 (variables_left 0 draft.leaves draft.leaves) n
       at n = ap (λ (ps : List ℕ). unwrap_or (slice_get ps n) n) told ∙ renumbered_by_places draft.leaves n
 
       places_renumber : renaming (λ n s. unwrap_or (slice_get places n) n) ≡ renumbered

@@ -8,7 +8,7 @@ use Rattle.event_offers.specs.OfferView.{condition_of, conditions_of}
 use Rattle.sort_terms.specs.SortedView.{term_in}
 use Rattle.sort_terms.specs.declared.sorted.Sorted.{Sorted}
 use Rattle.lotos_base.proofs.Pieces.{next_member}
-use Rattle.draft_solving.specs.Merging.{AreBare, AreLinksOf, AreNumbersBelow, IsBare, least, least_of, link, number_of, used, with_smaller}
+use Rattle.draft_solving.specs.Merging.{AreBare, AreLinksOf, AreNumbersBelow, HasVariableSides, least, least_of, link, number_of_variable, used, with_smaller}
 
 -- ---- Of two numbers the larger becomes the smaller.
 pub smaller_second : (a b k : ℕ) → a < b → with_smaller a b k ≡ (if nat_eq b k then a else k)
@@ -177,11 +177,12 @@ used_begun count all links size own = record {
 }
 
 pub used_more : (count : ℕ) (all rest : List Test) (test : Test) (links next : List ℕ) → length next ≡ length links
-    → ((number : ℕ → ℕ) → number_of test.left < length links → number_of test.right < length links → AreLinksOf number links
-    → AreLinksOf (used number (number_of test.left) (number_of test.right)) next)
+    → ((number : ℕ → ℕ) → number_of_variable test.left < length links → number_of_variable test.right < length links
+    → AreLinksOf number links
+    → AreLinksOf (used number (number_of_variable test.left) (number_of_variable test.right)) next)
     → AreUsedUpTo count all (test ∷ rest) links → AreUsedUpTo count all rest next
 used_more count all rest test links next size step h = record {
-  number = used h.number (number_of test.left) (number_of test.right);
+  number = used h.number (number_of_variable test.left) (number_of_variable test.right);
   size = size ∙ h.size;
   told = h.told;
   linked = λ below.
@@ -195,9 +196,6 @@ pub record AreFollowedUpTo (i : ℕ) (old now : List ℕ) : Type 0 where
   pub size : length now ≡ length old
   pub before : (number : ℕ → ℕ) → AreLinksOf number old → (n : ℕ) → n < i → link now n ≡ number n
   pub later : (n : ℕ) → i ≤ n → link now n ≡ link old n
-
-pub followed_begun : (old : List ℕ) → AreFollowedUpTo 0 old old
-followed_begun old = record { size = refl; before = λ number h n lt. absurd (omega arith); later = λ n le. refl }
 
 pub set_size : (xs : List ℕ) (i x : ℕ) → length (slice_set xs i x) ≡ length xs
 set_size [] i x = refl
@@ -254,7 +252,7 @@ followed_all i old now past h number l n = by (cases_order n i)
 
 -- ---- The loops over the conditions.
 pub bare_more : (items : List (Sorted × Sorted)) (i : ℕ) (x : Sorted × Sorted) → i < length items → x ≡ get_or items i x
-    → IsBare (condition_of x) → (AreBare (conditions_of (drop i items)) → AreBare (conditions_of items))
+    → HasVariableSides (condition_of x) → (AreBare (conditions_of (drop i items)) → AreBare (conditions_of items))
     → AreBare (conditions_of (drop (i + 1) items)) → AreBare (conditions_of items)
 bare_more items i x lt is one so rest =
     so (subst (λ (ys : List (Sorted × Sorted)). AreBare (conditions_of ys)) (sym (next_member items i x lt is)) (one, rest))
@@ -265,8 +263,9 @@ bare_done items i past so = so (subst (λ (ys : List (Sorted × Sorted)). AreBar
 
 pub used_next : (count : ℕ) (items : List (Sorted × Sorted)) (i : ℕ) (x : Sorted × Sorted) (links next : List ℕ) → i < length items
     → x ≡ get_or items i x → length next ≡ length links
-    → ((number : ℕ → ℕ) → number_of (term_in x.0) < length links → number_of (term_in x.1) < length links → AreLinksOf number links
-    → AreLinksOf (used number (number_of (term_in x.0)) (number_of (term_in x.1))) next)
+    → ((number : ℕ → ℕ) → number_of_variable (term_in x.0) < length links → number_of_variable (term_in x.1) < length links
+    → AreLinksOf number links
+    → AreLinksOf (used number (number_of_variable (term_in x.0)) (number_of_variable (term_in x.1))) next)
     → AreUsedUpTo count (conditions_of items) (conditions_of (drop i items)) links
     → AreUsedUpTo count (conditions_of items) (conditions_of (drop (i + 1) items)) next
 used_next count items i x links next lt is size step h =

@@ -24,7 +24,7 @@ use Rattle.behaviour_semantics.proofs.RenamedSolving.{by_number, terms_in_order}
 use Rattle.behaviour_semantics.proofs.ReplacementsInOrder.{put_for, replaced_in_order}
 use Rattle.behaviour_semantics.proofs.SolvingSteps.{same_draft, same_step, same_then, SameOutcomes}
 use Rattle.draft_solving.proofs.LinkLemmas.{smaller_first, smaller_same, smaller_second}
-use Rattle.draft_solving.specs.Merging.{AreBare, AreNumbersBelow, least, least_of, merged, number_of, used}
+use Rattle.draft_solving.specs.Merging.{AreBare, AreNumbersBelow, least, least_of, merged, number_of_variable, used}
 use Rattle.draft_solving.specs.Changing.{AreReadyPairs, IsVariable}
 use Rattle.event_offers.specs.OfferView.{condition_profiles, conditions_of, plain_draft}
 use Rattle.event_offers.specs.Offers.{IsDraftOver}
@@ -195,7 +195,7 @@ module _ (data_ : Data) (canon : Term → Term) (is_canon : IsCanon data_ canon)
           (by (term_eq (variable (number n) s) (variable (number m) s)) refl)
         where
           by : (b : Bool) → term_eq (variable (number n) s) (variable (number m) s) ≡ b → b ≡ false
-          by true e = absurd (apart (ap number_of ((Decides-term_eq (variable (number n) s) (variable (number m) s)).0 e)))
+          by true e = absurd (apart (ap number_of_variable ((Decides-term_eq (variable (number n) s) (variable (number m) s)).0 e)))
           by false e = refl
 
       -- the sides differ: one of the variables gives way to the other
@@ -297,8 +297,8 @@ module _ (data_ : Data) (canon : Term → Term) (is_canon : IsCanon data_ canon)
         used_first number l.number r.number s left_leaf right_leaf tests
         (subst (λ (t : Test). Every (IsDraftTest data_.signature draft.leaves) (t ∷ tests)) is h)
         (subst (λ (t : Test). IsHalfMerged number (t ∷ tests)) is half) in
-        used_all (used number (number_of test.left) (number_of test.right)) tests bare.1 h.1
-        (subst (λ (t : Test). IsHalfMerged (used number (number_of t.left) (number_of t.right)) tests) (sym is) once)
+        used_all (used number (number_of_variable test.left) (number_of_variable test.right)) tests bare.1 h.1
+        (subst (λ (t : Test). IsHalfMerged (used number (number_of_variable t.left) (number_of_variable t.right)) tests) (sym is) once)
 
     finished : (number : ℕ → ℕ) → IsHalfMerged number []
         → SolvesTo canon draft (Some (entry_of (tidied canon (canonical (substituted (by_number number)) (with_tests [])))))
@@ -325,11 +325,12 @@ module _ (data_ : Data) (canon : Term → Term) (is_canon : IsCanon data_ canon)
       numbers_below tests bare.1 h.1,
     )
       where
-        side : (t : Term) (s : ℕ) → IsVariable t → HasLeafVariables data_.signature draft.leaves s t → number_of t < length draft.leaves
+        side : (t : Term) (s : ℕ) → IsVariable t → HasLeafVariables data_.signature draft.leaves s t
+            → number_of_variable t < length draft.leaves
         side t s v fine =
             let leaf = fine.own v.number v.sort (subst (Occurs v.number v.sort) (sym v.is) (refl, refl)) in
             let lt : v.number < length draft.leaves = order.below v.number v.sort leaf in
-            subst (λ (n : ℕ). n < length draft.leaves) (sym (ap number_of v.is)) lt
+            subst (λ (n : ℕ). n < length draft.leaves) (sym (ap number_of_variable v.is)) lt
 
 -- a draft by its parts, with other numbers and without conditions
 pub merged_parts : (draft made : Draft) (number : ℕ → ℕ) (values : Substitution) → ((n s : ℕ) → values n s ≡ variable (number n) s)

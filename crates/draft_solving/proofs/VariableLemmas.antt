@@ -3,25 +3,26 @@ use Rattle.std.proofs.Common.{◌≡◌, ◌<◌, ◌≤◌, ℕ, zero, suc, ◌
 use Rattle.std.specs.Prelude.{unwrap_or, slice_set}
 use Rattle.lotos_base.specs.Term.{Term, variable, node}
 use Rattle.lotos_base.specs.Substitution.{Substitution}
-use Rattle.behaviour_semantics.specs.Solving.{leaf_sort, numbered, variables_left, place_of}
+use Rattle.behaviour_semantics.specs.Solving.{leaf_sort, numbered, variables_left, place_of_number}
 use Rattle.behaviour_semantics.proofs.LeftVariables.{RisesFrom, left_rises}
 use Rattle.std.proofs.Math.Seq.{drop-cons}
 use Rattle.sort_terms.specs.SortedView.{term_in}
 use Rattle.sort_terms.specs.declared.sorted.Sorted.{Sorted}
 use Rattle.behaviour_tree.specs.BehaviourView.{terms_of}
-use Rattle.draft_solving.specs.Variables.{leaf_sorts, sort_noted, places_in, found_sorts}
+use Rattle.draft_solving.specs.Variables.{leaf_sorts, sort_noted, places_by_sorts, found_sorts}
 
-place_below : (first k : ℕ) (kept : List (ℕ × ℕ)) (n : ℕ) → RisesFrom k kept → n < k → place_of first kept n ≡ n
+place_below : (first k : ℕ) (kept : List (ℕ × ℕ)) (n : ℕ) → RisesFrom k kept → n < k → place_of_number first kept n ≡ n
 place_below first k [] n h lt = refl
 place_below first k (v ∷ kept) n h lt =
-    (let e : (if nat_eq v.0 n then first else place_of (suc first) kept n) ≡ place_of (suc first) kept n =
+    (let e : (if nat_eq v.0 n then first else place_of_number (suc first) kept n) ≡ place_of_number (suc first) kept n =
     rw (ne_eqb v.0 n (λ same. let le : k ≤ v.0 = h.0 in omega arith)) refl in e)
     ∙ place_below (suc first) (suc v.0) kept n h.1 (let le : k ≤ v.0 = h.0 in omega arith)
 
 -- What the table says of the place of a number, counted from a first one.
 abbrev Told : List Term → ℕ → ℕ → List Term → ℕ → Type 0
 Told leaves first k rest j =
-    unwrap_or (slice_get (places_in first k (leaf_sorts k rest leaves)) j) (k + j) ≡ place_of first (variables_left k rest leaves) (k + j)
+    unwrap_or (slice_get (places_by_sorts first k (leaf_sorts k rest leaves)) j) (k + j)
+    ≡ place_of_number first (variables_left k rest leaves) (k + j)
 
 places_told : (first k : ℕ) (rest leaves : List Term) (j : ℕ) → Told leaves first k rest j
 places_told first k [] leaves j = refl
@@ -34,28 +35,30 @@ places_told first k (t ∷ rest) leaves j = by (λ f i. places_told f (suc k) re
     there i = ne_eqb k (k + suc i) (λ e. omega (arith, e))
 
     next : ((f i : ℕ) → Told leaves f (suc k) rest i) → (f i : ℕ)
-        → unwrap_or (slice_get (places_in f (suc k) (leaf_sorts (suc k) rest leaves)) i) (k + suc i)
-        ≡ place_of f (variables_left (suc k) rest leaves) (k + suc i)
-    next rec f i = subst (λ (n : ℕ). unwrap_or (slice_get (places_in f (suc k) (leaf_sorts (suc k) rest leaves)) i) n
-        ≡ place_of f (variables_left (suc k) rest leaves) n) (let e : suc k + i ≡ k + suc i = omega arith in e) (rec f i)
+        → unwrap_or (slice_get (places_by_sorts f (suc k) (leaf_sorts (suc k) rest leaves)) i) (k + suc i)
+        ≡ place_of_number f (variables_left (suc k) rest leaves) (k + suc i)
+    next rec f i = subst (λ (n : ℕ). unwrap_or (slice_get (places_by_sorts f (suc k) (leaf_sorts (suc k) rest leaves)) i) n
+        ≡ place_of_number f (variables_left (suc k) rest leaves) n) (let e : suc k + i ≡ k + suc i = omega arith in e) (rec f i)
 
     by : ((f i : ℕ) → Told leaves f (suc k) rest i) → (o : Option ℕ) (j : ℕ)
-        → unwrap_or (slice_get (places_in first k (o ∷ leaf_sorts (suc k) rest leaves)) j) (k + j)
-        ≡ place_of first (numbered k o (variables_left (suc k) rest leaves)) (k + j)
+        → unwrap_or (slice_get (places_by_sorts first k (o ∷ leaf_sorts (suc k) rest leaves)) j) (k + j)
+        ≡ place_of_number first (numbered k o (variables_left (suc k) rest leaves)) (k + j)
     by rec None zero = sym (place_below first (suc k) (variables_left (suc k) rest leaves) (k + 0)
         (left_rises (suc k) rest leaves) (omega arith) ∙ (let e : k + 0 ≡ k = omega arith in e))
     by rec None (suc i) = next rec first i
-    by rec (Some s) zero = sym (let e : (if nat_eq k (k + 0) then first else place_of (suc first) (variables_left (suc k) rest leaves) (k
+    by rec (Some s) zero =
+        sym (let e : (if nat_eq k (k + 0) then first else place_of_number (suc first) (variables_left (suc k) rest leaves) (k
         + 0)) ≡ first =
         rw here refl in e)
     by rec (Some s) (suc i) = next rec (suc first) i
-        ∙ sym (let e : (if nat_eq k (k + suc i) then first else place_of (suc first) (variables_left (suc k) rest leaves) (k + suc i))
-        ≡ place_of (suc first) (variables_left (suc k) rest leaves) (k + suc i) = rw (there i) refl in e)
+        ∙ sym
+        (let e : (if nat_eq k (k + suc i) then first else place_of_number (suc first) (variables_left (suc k) rest leaves) (k + suc i))
+        ≡ place_of_number (suc first) (variables_left (suc k) rest leaves) (k + suc i) = rw (there i) refl in e)
 
 pub renumbered_by_places : (leaves : List Term) (n : ℕ)
-    → unwrap_or (slice_get (places_in 0 0 (leaf_sorts 0 leaves leaves)) n) n ≡ place_of 0 (variables_left 0 leaves leaves) n
-renumbered_by_places leaves n = subst (λ (m : ℕ). unwrap_or (slice_get (places_in 0 0 (leaf_sorts 0 leaves leaves)) n) m
-    ≡ place_of 0 (variables_left 0 leaves leaves) m) (let e : 0 + n ≡ n = omega arith in e) (places_told 0 0 leaves leaves n)
+    → unwrap_or (slice_get (places_by_sorts 0 0 (leaf_sorts 0 leaves leaves)) n) n ≡ place_of_number 0 (variables_left 0 leaves leaves) n
+renumbered_by_places leaves n = subst (λ (m : ℕ). unwrap_or (slice_get (places_by_sorts 0 0 (leaf_sorts 0 leaves leaves)) n) m
+    ≡ place_of_number 0 (variables_left 0 leaves leaves) m) (let e : 0 + n ≡ n = omega arith in e) (places_told 0 0 leaves leaves n)
 
 -- the sorts of the variables that are left
 pub sorts_told : (k : ℕ) (rest leaves : List Term) → map (λ (v : ℕ × ℕ). v.1) (variables_left k rest leaves) ≡ found_sorts (leaf_sorts k
@@ -67,10 +70,6 @@ sorts_told k (t ∷ rest) leaves = by (leaf_sort k leaves) (sorts_told (suc k) r
         → map (λ (v : ℕ × ℕ). v.1) (numbered k o (variables_left (suc k) rest leaves)) ≡ found_sorts (o ∷ leaf_sorts (suc k) rest leaves)
     by None rest = rest
     by (Some s) rest = ap (λ (ss : List ℕ). s ∷ ss) rest
-
-pub length-leaf_sorts : (k : ℕ) (rest leaves : List Term) → length (leaf_sorts k rest leaves) ≡ length rest
-length-leaf_sorts k [] leaves = refl
-length-leaf_sorts k (t ∷ rest) leaves = ap suc (length-leaf_sorts (suc k) rest leaves)
 
 -- one more leaf before the others, whose number is below those that are looked at
 past : (m s k : ℕ) (rest leaves : List Term) → m < k → leaf_sorts k rest (variable m s ∷ leaves) ≡ leaf_sorts k rest leaves

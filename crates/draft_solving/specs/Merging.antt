@@ -8,16 +8,16 @@ use Rattle.behaviour_semantics.specs.WellFormed.{Every}
 use Rattle.draft_solving.specs.Changing.{IsVariable}
 
 -- Both sides of a condition are variables, and so with all of a list.
-abbrev pub IsBare : Test → Type 0
-IsBare test = IsVariable test.left × IsVariable test.right
+abbrev pub HasVariableSides : Test → Type 0
+HasVariableSides test = IsVariable test.left × IsVariable test.right
 
 abbrev pub AreBare : List Test → Type 0
-AreBare tests = Every IsBare tests
+AreBare tests = Every HasVariableSides tests
 
 -- the number of a variable
-abbrev pub number_of : Term → ℕ
-number_of (variable n s) = n
-number_of (node f ts) = 0
+abbrev pub number_of_variable : Term → ℕ
+number_of_variable (variable n s) = n
+number_of_variable (node f ts) = 0
 
 -- what a number becomes when the larger of two others is replaced by the smaller
 abbrev pub with_smaller : ℕ → ℕ → ℕ → ℕ
@@ -30,7 +30,7 @@ used number n m k = with_smaller (number n) (number m) (number k)
 
 abbrev pub least : (ℕ → ℕ) → List Test → ℕ → ℕ
 least number [] = number
-least number (test ∷ tests) = least (used number (number_of test.left) (number_of test.right)) tests
+least number (test ∷ tests) = least (used number (number_of_variable test.left) (number_of_variable test.right)) tests
 
 -- what numbers become by all conditions of a draft
 abbrev pub least_of : List Test → ℕ → ℕ
@@ -45,7 +45,8 @@ merged number draft = without_conditions (draft_with (renaming (λ n s. number n
 
 -- the numbers on both sides are below a count
 abbrev pub AreNumbersBelow : ℕ → List Test → Type 0
-AreNumbersBelow count tests = Every (λ (test : Test). (number_of test.left < count) × (number_of test.right < count)) tests
+AreNumbersBelow count tests =
+    Every (λ (test : Test). (number_of_variable test.left < count) × (number_of_variable test.right < count)) tests
 
 -- ---- Numbers linked to smaller ones: what stands at a number's place in the table, or itself.
 abbrev pub link : List ℕ → ℕ → ℕ

@@ -14,10 +14,10 @@ sort_noted (variable n s) sorts = slice_set sorts n (Some s)
 sort_noted (node f ts) sorts = sorts
 
 -- what each number from a second one on becomes: where it has a sort, the next place from a first one on
-abbrev pub places_in : ℕ → ℕ → List (Option ℕ) → List ℕ
-places_in first k [] = []
-places_in first k (None ∷ rest) = k ∷ places_in first (suc k) rest
-places_in first k (Some s ∷ rest) = first ∷ places_in (suc first) (suc k) rest
+abbrev pub places_by_sorts : ℕ → ℕ → List (Option ℕ) → List ℕ
+places_by_sorts first k [] = []
+places_by_sorts first k (None ∷ rest) = k ∷ places_by_sorts first (suc k) rest
+places_by_sorts first k (Some s ∷ rest) = first ∷ places_by_sorts (suc first) (suc k) rest
 
 -- the sorts that are there
 abbrev pub found_sorts : List (Option ℕ) → List ℕ

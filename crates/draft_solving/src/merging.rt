@@ -7,11 +7,11 @@ ghost use Rattle.draft_solving.specs.Merging.{
   AreBare,
   AreLinksOf,
   AreNumbersBelow,
-  IsBare,
+  HasVariableSides,
   least_of,
   link,
   merged,
-  number_of,
+  number_of_variable,
   used,
 };
 ghost use Rattle.event_offers.specs.OfferView.{
@@ -56,7 +56,7 @@ pub fn are_bare(conditions: &Vec<(Sorted, Sorted)>) -> bool
 
 // Whether both sides are variables.
 fn is_bare(condition: &(Sorted, Sorted)) -> bool
-    ensures { IsTrue result → IsBare (condition_of condition.now) }
+    ensures { IsTrue result → HasVariableSides (condition_of condition.now) }
 {
     if !is_variable(&condition.0) {
         return false;
@@ -125,11 +125,11 @@ fn own_numbers(alloc: Global, count: usize) -> Result<Vec<u64>, NoMemory>
 fn use_condition(links: &mut Vec<u64>, condition: &(Sorted, Sorted))
     ensures size { length links.new.items ≡ length links.old.items }
     ensures used { (number : ℕ → ℕ)
-        → number_of (condition_of condition.now).left < length links.old.items
-        → number_of (condition_of condition.now).right < length links.old.items
+        → number_of_variable (condition_of condition.now).left < length links.old.items
+        → number_of_variable (condition_of condition.now).right < length links.old.items
         → AreLinksOf number links.old.items
-        → AreLinksOf (used number (number_of (condition_of condition.now).left)
-        (number_of (condition_of condition.now).right)) links.new.items }
+        → AreLinksOf (used number (number_of_variable (condition_of condition.now).left)
+        (number_of_variable (condition_of condition.now).right)) links.new.items }
 {
     let left = least(links, number_in(&condition.0));
     let right = least(links, number_in(&condition.1));
@@ -142,7 +142,7 @@ fn use_condition(links: &mut Vec<u64>, condition: &(Sorted, Sorted))
 
 // The number of a variable.
 fn number_in(term: &Sorted) -> u64
-    ensures { result ≡ number_of (term_in term.now) }
+    ensures { result ≡ number_of_variable (term_in term.now) }
 {
     match term.term() {
         Term::Var { number, .. } => *number,

@@ -1,7 +1,7 @@
 //! The variables that are left in a draft, and their new numbers.
 
 ghost use Rattle.behaviour_tree.specs.BehaviourView.{terms_of};
-ghost use Rattle.draft_solving.specs.Variables.{found_sorts, leaf_sorts, sort_noted, places_in};
+ghost use Rattle.draft_solving.specs.Variables.{found_sorts, leaf_sorts, sort_noted, places_by_sorts};
 ghost use Rattle.sort_terms.specs.TermView.{term_of};
 ghost use Rattle.std.specs.Prelude.{◌≡◌, [], IfOk};
 
@@ -49,7 +49,7 @@ fn note(sorts: &mut Vec<Option<u32>>, leaf: &Term)
 /// What each number becomes: the place of its variable among those that are left, where it has a
 /// sort, and itself where it has none.
 pub fn places(sorts: &Vec<Option<u32>>) -> Result<Vec<u64>, NoMemory>
-    ensures { IfOk result (λ made. made.items ≡ places_in 0 0 sorts.now.items) }
+    ensures { IfOk result (λ made. made.items ≡ places_by_sorts 0 0 sorts.now.items) }
 {
     let mut made = Vec::with_capacity(*sorts.allocator(), sorts.len())?;
     let mut first = 0;

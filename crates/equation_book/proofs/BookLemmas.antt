@@ -27,24 +27,8 @@ use Rattle.path_order.specs.RulesView.{rules_in, plain_rules_in, precedence_in, 
 use Rattle.path_order.proofs.RulesLemmas.{rules_have_forms, rules_well_formed}
 use Rattle.equation_book.specs.declared.joined.Joined.{Joined}
 use Rattle.equation_book.specs.JoinedFacts.{joined_confluent}
-use Rattle.path_order.specs.OrientFaultView.{IsOrientFault}
-use Rattle.path_order.specs.declared.orient_fault.OrientFault.{OrientFault}
-use Rattle.path_order.specs.declared.orient_fault.OrientFault.TheVariants.{Unorientable, NoMemory as OrientNoMemory}
-use Rattle.equation_book.specs.Joining.{AreUnjoinedBy, HoldsOfPairFault, IsPairFaultOver}
-use Rattle.equation_book.specs.declared.pair_fault.PairFault.{PairFault}
-use Rattle.equation_book.specs.declared.pair_fault.PairFault.TheVariants.{Unjoined, NoMemory as PairNoMemory}
-use Rattle.termination_theory.specs.Precedence.{Precedence}
-use Rattle.termination_theory.specs.Orientation.{NumberedRule, IsOrientation}
 use Rattle.lotos_base.specs.WrittenTerm.{ListedOperation}
-use Rattle.path_order.specs.OrderFaultView.{IsOrderFault}
-use Rattle.path_order.specs.declared.order_fault.OrderFault.{OrderFault}
-use Rattle.path_order.specs.declared.order_fault.OrderFault.TheVariants.{UnknownOperation as OrderUnknown, TwiceListed as OrderTwice, BadStatus as OrderStatus, NoMemory as OrderNoMemory}
-use Rattle.path_order.specs.OrderedBy.{IsPrecedenceBy}
-use Rattle.path_order.specs.PrecedenceView.{precedence_of}
-use Rattle.path_order.specs.declared.precedence.Precedence.{Precedence as CodePrecedence}
-use Rattle.equation_book.specs.Refusal.{SaysOfData, IsBookFault, IsBookFaultOver, IsOpenedBy, book_fault_of_order, book_fault_of_orientation, book_fault_of_pair}
-use Rattle.equation_book.specs.declared.book_fault.BookFault.{BookFault}
-use Rattle.equation_book.specs.declared.book_fault.BookFault.TheVariants.{UnknownOperation as BookUnknown, TwiceListed as BookTwice, BadStatus as BookStatus, Unorientable as BookUnorientable, Unjoined as BookUnjoined, NoMemory as BookNoMemory}
+use Rattle.equation_book.specs.Refusal.{IsOpenedBy}
 use Rattle.equation_book.specs.BookCanon.{book_canon}
 use Rattle.equation_book.specs.BookCanonFacts.{book_chooses, book_oriented}
 use Rattle.equation_book.specs.SortedSides.{AreSortedSides}
@@ -138,57 +122,3 @@ flat_sorted flat sorted k equation is =
           (sorted_fits (signature_of flat.signature) (profiled_in equation.left) one.sort sides.0 one.left).1
           ∙ sym (sorted_fits (signature_of flat.signature) (profiled_in equation.right) one.sort sides.1 one.right).1;
     }
-
--- ---- Refusals
-
--- what a fault of orientation says of the data
-pub orientation_says : (p : Precedence) (data_ : Data) (fault : OrientFault) → IsOrientFault p data_.equations fault
-    → SaysOfData p data_ (book_fault_of_orientation fault)
-orientation_says p data_ (Unorientable equation) is = is
-orientation_says p data_ OrientNoMemory is = tt
-
--- what a fault of a critical pair says of them
-pub pair_says : (p : Precedence) (data_ : Data) (signature : Signature) (rules : List NumberedRule) (fault : PairFault)
-    → signature ≡ data_.signature → IsOrientation p data_ rules → HoldsOfPairFault signature rules fault
-    → SaysOfData p data_ (book_fault_of_pair fault)
-pair_says p data_ signature rules (Unjoined first second peak left right) same oriented is = (
-  rules,
-  oriented,
-  subst (λ (s : Signature). AreUnjoinedBy s rules first second (term_in peak) (term_in left) (term_in right)) same is,
-)
-pair_says p data_ signature rules PairNoMemory same oriented is = tt
-
--- what a fault of an order says
-pub order_says : (items : List ListedOperation) (data_ : Data) (fault : OrderFault) → IsOrderFault data_.signature items fault
-    → IsBookFault items data_ (book_fault_of_order fault)
-order_says items data_ (OrderUnknown place name) is = is
-order_says items data_ (OrderTwice place name) is = is
-order_says items data_ (OrderStatus place name) is = is
-order_says items data_ OrderNoMemory is = tt
-
--- what a fault of the data says
-pub data_says : (items : List ListedOperation) (data_ : Data) (p : CodePrecedence) (fault : BookFault)
-    → IsPrecedenceBy data_.signature items (precedence_of p) → SaysOfData (precedence_of p) data_ fault → IsBookFault items data_ fault
-data_says items data_ p (BookUnknown place name) by is = absurd is
-data_says items data_ p (BookTwice place name) by is = absurd is
-data_says items data_ p (BookStatus place name) by is = absurd is
-data_says items data_ p (BookUnorientable equation) by is = (precedence_of p, by, is)
-data_says items data_ p (BookUnjoined first second peak left right) by is = (precedence_of p, by, is)
-data_says items data_ p BookNoMemory by is = tt
-
--- the terms of a fault are of the signature
-pub order_over : (signature : Signature) (fault : OrderFault) → IsBookFaultOver signature (book_fault_of_order fault)
-order_over signature (OrderUnknown place name) = tt
-order_over signature (OrderTwice place name) = tt
-order_over signature (OrderStatus place name) = tt
-order_over signature OrderNoMemory = tt
-
-pub orientation_over : (signature : Signature) (fault : OrientFault) → IsBookFaultOver signature (book_fault_of_orientation fault)
-orientation_over signature (Unorientable equation) = tt
-orientation_over signature OrientNoMemory = tt
-
-pub pair_over : (signature other : Signature) (fault : PairFault) → signature ≡ other → IsPairFaultOver signature fault
-    → IsBookFaultOver other (book_fault_of_pair fault)
-pair_over signature other (Unjoined first second peak left right) same is =
-    subst (λ (s : Signature). IsPairFaultOver s (Unjoined first second peak left right)) same is
-pair_over signature other PairNoMemory same is = tt

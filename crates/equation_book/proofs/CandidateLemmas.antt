@@ -3,16 +3,17 @@ use Rattle.std.proofs.Common.{◌≡◌, ◌≤◌, ◌<◌, ◌+◌, Bor, ltb, 
 use Rattle.std.specs.List.Sorted.{IsNonDecreasing, IsPartitionPoint, IsPartitionedBy}
 use Rattle.std.specs.Option.{option_map}
 use Rattle.std.specs.Cmp.Derive.{both_true}
-use Rattle.std.specs.Prelude.{◌⊎◌, ◌&&◌, ◌||◌, Some, None, Option, IfSome, is_some, slice_get, nat_lt, nat_le, if◌then◌else◌}
+use Rattle.std.specs.Prelude.{◌⊎◌, ◌||◌, Some, None, Option, IfSome, is_some, slice_get, nat_lt, nat_le, if◌then◌else◌}
 use Rattle.std.proofs.lemmas.Option.{same_Some}
-use Rattle.std.proofs.lemmas.Bool.{leb-true, leb-false, ltb-true, ltb-false}
+use Rattle.std.proofs.lemmas.Bool.{leb-true, leb-false, ltb-true, ltb-false, and_parts, or_cases}
 use Rattle.lotos_base.specs.Term.{Term, variable, node}
 use Rattle.rewriting_theory.specs.Rule.{Rule}
 use Rattle.rewriting_theory.proofs.PlaceListLemmas.{IsIn, in_left, in_right, in_either}
-use Rattle.path_order.specs.RuleHead.{has_head, headed_from, headed}
+use Rattle.path_order.specs.RuleHead.{has_head, headed}
 use Rattle.equation_book.specs.NodePlaces.{PlaceOfNode}
 use Rattle.equation_book.specs.Candidates.{lesser_of, considered, least_from, place_least, all_least}
-use Rattle.term_store.specs.HandedOn.{first_head, is_missing, is_number, is_open, has_first, numbered_where, may_overlap}
+use Rattle.term_store.specs.HandedOn.{first_head, is_missing, is_head_number, is_open, has_first, numbered_where, may_overlap}
+use Rattle.term_store.proofs.HandedOn.{headed_where}
 
 -- ---- Rules that pass a test
 
@@ -46,11 +47,6 @@ where_within test k (first ∷ rules) n is =
         → (IsIn n (numbered_where test (suc k) rules) → n < suc k + length rules) → n < k + suc (length rules)
     go (inl at) rest = let same = here (test first.left) at in omega (arith, same)
     go (inr at) rest = let less = rest at in omega (arith, less)
-
--- those with an operation at their heads
-headed_where : (f k : ℕ) (rules : List Rule) → headed_from f k rules ≡ numbered_where (has_head f) k rules
-headed_where f k [] = refl
-headed_where f k (rule ∷ rules) = ap (λ (ns : List ℕ). (if has_head f rule.left then k ∷ [] else []) ++ ns) (headed_where f (suc k) rules)
 
 -- ---- Their numbers rise
 
@@ -300,14 +296,6 @@ listed_at : (test : Term → Bool) (rules : List Rule) (j : ℕ) (rule : Rule) �
 listed_at test rules j rule at e =
     subst (λ (n : ℕ). IsIn n (numbered_where test 0 rules)) (omega arith) (where_complete test 0 rules j rule at e)
 
-and_true : (a b : Bool) → (a && b) ≡ true → (a ≡ true) × (b ≡ true)
-and_true true b e = (refl, e)
-and_true false b e = cc
-
-either_true : (a b : Bool) → (a || b) ≡ true → (a ≡ true) ⊎ (b ≡ true)
-either_true true b e = inl refl
-either_true false b e = inr e
-
 place_least_finds : (rules : List Rule) (from : ℕ) (known : Option ℕ) (head : ℕ) (first : Option ℕ) (j : ℕ) (rule : Rule)
     → slice_get rules j ≡ Some rule → may_overlap head first rule.left ≡ true → from ≤ j
     → IsAtMost (place_least rules from known head first) j
@@ -316,15 +304,15 @@ place_least_finds rules from known head first j rule at may above = go rule.left
     go : (t : Term) → rule.left ≡ t → (o : Option ℕ) → may_overlap head o t ≡ true → IsAtMost (place_least rules from known head o) j
     go (variable n s) is o e = cc
     go (node h ts) is None e =
-        let parts = and_true (nat_eq h head) true e in
+        let parts = and_parts (nat_eq h head) true e in
         least_finds from known (headed head rules) j
         (subst (λ (ns : List ℕ). IsIn j ns) (sym (headed_where head 0 rules))
         (listed_at (has_head head) rules j rule at (ap (has_head head) is ∙ parts.0))) above
     go (node h ts) is (Some g) e =
-        let parts = and_true (nat_eq h head) (is_missing (first_head ts) || is_number g (first_head ts)) e in
-        either parts.0 (either_true (is_missing (first_head ts)) (is_number g (first_head ts)) parts.1)
+        let parts = and_parts (nat_eq h head) (is_missing (first_head ts) || is_head_number g (first_head ts)) e in
+        either parts.0 (or_cases (is_missing (first_head ts)) (is_head_number g (first_head ts)) parts.1)
       where
-        either : nat_eq h head ≡ true → (is_missing (first_head ts) ≡ true) ⊎ (is_number g (first_head ts) ≡ true)
+        either : nat_eq h head ≡ true → (is_missing (first_head ts) ≡ true) ⊎ (is_head_number g (first_head ts) ≡ true)
             → IsAtMost (place_least rules from known head (Some g)) j
         either same (inl missing) =
             least_keeps from (least_from from known (numbered_where (is_open head) 0 rules)) (numbered_where (has_first g) 0 rules) j

@@ -15,7 +15,7 @@ use Rattle.path_order.specs.RulesView.{rules_in, plain_rules_in, signature_in}
 use Rattle.path_order.specs.declared.rules.Rules.{Rules}
 use Rattle.equation_book.specs.Listing.{named_by, ListsAll, AddsPairs, ArePairsOver}
 use Rattle.equation_book.specs.Extended.{AddsPairsOf}
-use Rattle.equation_book.specs.PairView.{pair_of, pairs_in, terms_in}
+use Rattle.equation_book.specs.PairView.{critical_pair_of, critical_pairs_in, terms_in}
 use Rattle.equation_book.specs.declared.pair.Pair.{Pair}
 
 pub extends_nothing : (rules : List NumberedRule) (before : List CriticalPair) → AddsPairs rules [] before before
@@ -44,12 +44,13 @@ extends_one rules place pair before is = record { plain = pair ∷ []; pairs_of 
 -- ---- Lists of the code
 
 pub extended_nothing : (rules : Rules) (before : List Pair) → AddsPairsOf rules [] before before
-extended_nothing rules before = record { listed = extends_nothing (rules_in rules) (pairs_in before); over = λ over. over }
+extended_nothing rules before = record { listed = extends_nothing (rules_in rules) (critical_pairs_in before); over = λ over. over }
 
 pub extended_then : (rules : Rules) (one two : List PairPlace) (before middle after : List Pair) → AddsPairsOf rules one before middle
     → AddsPairsOf rules two middle after → AddsPairsOf rules (one ++ two) before after
 extended_then rules one two before middle after first second = record {
-  listed = extends_then (rules_in rules) one two (pairs_in before) (pairs_in middle) (pairs_in after) first.listed second.listed;
+  listed = extends_then (rules_in rules) one two (critical_pairs_in before) (critical_pairs_in middle) (critical_pairs_in after)
+      first.listed second.listed;
   over = λ over. second.over (first.over over);
 }
 
@@ -60,7 +61,7 @@ extended_along rules one two before after same is = subst (λ (ps : List PairPla
 pub extended_apart : (rules : Rules) (place : PairPlace) (before : List Pair) → IsApartAt (plain_rules_in rules) place
     → AddsPairsOf rules (place ∷ []) before before
 extended_apart rules place before apart = record {
-  listed = extends_apart (rules_in rules) place (pairs_in before) apart;
+  listed = extends_apart (rules_in rules) place (critical_pairs_in before) apart;
   over = λ over.
       over;
 }
@@ -75,12 +76,12 @@ over_more signature (first ∷ before) pair over is zero one e = over 0 one e
 over_more signature (first ∷ before) pair over is (suc k) one e = over_more signature before pair (λ j p f. over (suc j) p f) is k one e
 
 pub extended_one : (rules : Rules) (place : PairPlace) (before : List Pair) (pair : Pair) (plain : CriticalPair)
-    → IsPairOf (plain_rules_in rules) place plain → named_by (rules_in rules) plain ≡ pair_of pair
+    → IsPairOf (plain_rules_in rules) place plain → named_by (rules_in rules) plain ≡ critical_pair_of pair
     → ArePairTermsOf (signature_in rules) (terms_in pair) → AddsPairsOf rules (place ∷ []) before (before ++ pair ∷ [])
 extended_one rules place before pair plain is named over = record {
-  listed = subst (λ (ps : List CriticalPair). AddsPairs (rules_in rules) (place ∷ []) (pairs_in before) ps)
-      (ap (λ (p : CriticalPair). pairs_in before ++ p ∷ []) named ∙ sym (map-append pair_of before (pair ∷ [])))
-      (extends_one (rules_in rules) place plain (pairs_in before) is);
+  listed = subst (λ (ps : List CriticalPair). AddsPairs (rules_in rules) (place ∷ []) (critical_pairs_in before) ps)
+      (ap (λ (p : CriticalPair). critical_pairs_in before ++ p ∷ []) named ∙ sym (map-append critical_pair_of before (pair ∷ [])))
+      (extends_one (rules_in rules) place plain (critical_pairs_in before) is);
   over = λ all. over_more (signature_in rules) before pair all over;
 }
 
@@ -144,7 +145,7 @@ places_from_more all k rule e =
 
 -- the pairs of all places are all pairs
 pub extended_all : (rules : Rules) (found : List Pair) → AddsPairsOf rules (places (plain_rules_in rules)) [] found
-    → ListsAll (rules_in rules) (pairs_in found)
+    → ListsAll (rules_in rules) (critical_pairs_in found)
 extended_all rules found is = record {
   plain = is.listed.plain;
   all = pairs_are_all (plain_rules_in rules) is.listed.plain is.listed.pairs_of;

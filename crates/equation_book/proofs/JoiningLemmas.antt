@@ -25,7 +25,7 @@ use Rattle.path_order.proofs.RulesLemmas.{rules_well_formed, rules_end}
 use Rattle.equation_book.specs.Listing.{named_by, ListsAll, ArePairsOver}
 use Rattle.equation_book.specs.Extended.{AddsPairsOf}
 use Rattle.equation_book.specs.Joining.{AreJoinedAt, ArePeaksOf, AreUnjoinedBy, NoneUnjoinedAmong, AnswersFirst}
-use Rattle.equation_book.specs.PairView.{pair_of, pairs_in, terms_in}
+use Rattle.equation_book.specs.PairView.{critical_pair_of, critical_pairs_in, terms_in}
 use Rattle.equation_book.specs.declared.pair.Pair.{Pair}
 use Rattle.equation_book.specs.declared.joining.Unjoined.{Unjoined}
 
@@ -67,8 +67,8 @@ named_back numbered (p ∷ pairs) (suc k) named is =
     record { pair = rest.pair; is_pair = rest.is_pair; same = rest.same }
 
 -- where no listed pair is unjoined, the rules are confluent
-pub joined_rules : (rules : Rules) (found : List Pair) → ListsAll (rules_in rules) (pairs_in found)
-    → NoneUnjoinedAmong (plain_rules_in rules) (pairs_in found) → AreConfluent (plain_rules_in rules)
+pub joined_rules : (rules : Rules) (found : List Pair) → ListsAll (rules_in rules) (critical_pairs_in found)
+    → NoneUnjoinedAmong (plain_rules_in rules) (critical_pairs_in found) → AreConfluent (plain_rules_in rules)
 joined_rules rules found listed none =
     none_unjoined_confluent (plain_rules_in rules) listed.plain (rules_well_formed rules) (rules_end rules) listed.all
     (λ k pair t u is unjoined.
@@ -102,7 +102,7 @@ joined_then rules one two first second = record {
 
 -- the pairs that the code found
 pub joined_found : (rules : Rules) (at : List PairPlace) (found : List Pair) → AddsPairsOf rules at [] found
-    → NoneUnjoinedAmong (plain_rules_in rules) (pairs_in found) → AreJoinedAt (plain_rules_in rules) at
+    → NoneUnjoinedAmong (plain_rules_in rules) (critical_pairs_in found) → AreJoinedAt (plain_rules_in rules) at
 joined_found rules at found adds none = record {
   pairs = adds.listed.plain;
   pairs_of = adds.listed.pairs_of;
@@ -124,22 +124,22 @@ joined_all rules joined =
 record IsSeen (found : List Pair) (k : ℕ) (seen : CriticalPair) : Type 0 where
   pair : Pair
   is_pair : slice_get found k ≡ Some pair
-  same : pair_of pair ≡ seen
+  same : critical_pair_of pair ≡ seen
 
-seen_back : (found : List Pair) (k : ℕ) (seen : CriticalPair) → slice_get (pairs_in found) k ≡ Some seen → IsSeen found k seen
+seen_back : (found : List Pair) (k : ℕ) (seen : CriticalPair) → slice_get (critical_pairs_in found) k ≡ Some seen → IsSeen found k seen
 seen_back [] k seen is = let none : None ≡ Some seen = is in cc
-seen_back (p ∷ found) zero seen is = record { pair = p; is_pair = refl; same = same_Some (pair_of p) seen is }
+seen_back (p ∷ found) zero seen is = record { pair = p; is_pair = refl; same = same_Some (critical_pair_of p) seen is }
 seen_back (p ∷ found) (suc k) seen is =
     let rest = seen_back found k seen is in
     record { pair = rest.pair; is_pair = rest.is_pair; same = rest.same }
 
 -- the peak of a pair of the signature is a term of it
-peak_of : (signature : Signature) (pair : Pair) → ArePairTermsOf signature (terms_in pair) → IsTermOf signature (pair_of pair).peak
+peak_of : (signature : Signature) (pair : Pair) → ArePairTermsOf signature (terms_in pair) → IsTermOf signature (critical_pair_of pair).peak
 peak_of signature pair is =
     (head_sort (profiled_in pair.peak), fitting_has_sort signature (profiled_in pair.peak) is.peak pair.peak.fits)
 
 -- so it is with all pairs that were listed
-peaks_of : (signature : Signature) (rules : List NumberedRule) (found : List Pair) (listed : ListsAll rules (pairs_in found))
+peaks_of : (signature : Signature) (rules : List NumberedRule) (found : List Pair) (listed : ListsAll rules (critical_pairs_in found))
     → ArePairsOver signature found → ArePeaksOf signature listed.plain
 peaks_of signature rules found listed over k pair is =
     let seen = seen_back found k (named_by rules pair)
@@ -148,8 +148,8 @@ peaks_of signature rules found listed over k pair is =
 
 -- where one is, they are not
 pub unjoined_rules : (signature : Signature) (rules : Rules) (found : List Pair) (answer : Unjoined)
-    → ListsAll (rules_in rules) (pairs_in found) → ArePairsOver signature found
-    → AnswersFirst (plain_rules_in rules) (pairs_in found) answer
+    → ListsAll (rules_in rules) (critical_pairs_in found) → ArePairsOver signature found
+    → AnswersFirst (plain_rules_in rules) (critical_pairs_in found) answer
     → AreUnjoinedBy signature (rules_in rules) answer.first answer.second (term_in answer.peak) (term_in answer.left)
     (term_in answer.right)
 unjoined_rules signature rules found answer listed over first =
@@ -190,10 +190,10 @@ unjoined_rules signature rules found answer listed over first =
 
 -- ---- Pairs looked at so far
 
-pub pair_listed : (pairs : List Pair) (k : ℕ) (pair : Pair) → slice_get pairs k ≡ Some pair → slice_get (pairs_in pairs) k
-    ≡ Some (pair_of pair)
+pub pair_listed : (pairs : List Pair) (k : ℕ) (pair : Pair) → slice_get pairs k ≡ Some pair → slice_get (critical_pairs_in pairs) k
+    ≡ Some (critical_pair_of pair)
 pair_listed [] k pair is = let none : None ≡ Some pair = is in cc
-pair_listed (p ∷ pairs) zero pair is = ap (λ (q : Pair). Some (pair_of q)) (same_Some p pair is)
+pair_listed (p ∷ pairs) zero pair is = ap (λ (q : Pair). Some (critical_pair_of q)) (same_Some p pair is)
 pair_listed (p ∷ pairs) (suc k) pair is = pair_listed pairs k pair is
 
 -- a pair of a list of one
@@ -206,7 +206,7 @@ item_there [] k x less e = absurd (omega (arith, less))
 item_there (y ∷ ys) zero x less e = ap (λ (p : Pair). Some p) (sym e)
 item_there (y ∷ ys) (suc k) x less e = item_there ys k x (omega (arith, less)) e
 
-pub listed_within : (xs : List Pair) (k : ℕ) (pair : CriticalPair) → slice_get (pairs_in xs) k ≡ Some pair → k < length xs
+pub listed_within : (xs : List Pair) (k : ℕ) (pair : CriticalPair) → slice_get (critical_pairs_in xs) k ≡ Some pair → k < length xs
 listed_within [] k pair is = let none : None ≡ Some pair = is in cc
 listed_within (x ∷ xs) zero pair is = omega arith
 listed_within (x ∷ xs) (suc k) pair is = let rest = listed_within xs k pair is in omega (arith, rest)

@@ -1,5 +1,5 @@
 -- The places of a term: their paths are those of its operations, and each has the operation that stands there.
-use Rattle.std.proofs.Common.{◌≡◌, ◌+◌, ◌<◌, ℕ, zero, suc, List, [], ◌∷◌, ◌++◌, map, length, get_or, drop, refl, ap, sym, ◌∙◌, inl, inr, arith, append-nil, append_assoc, drop-cons, add-one}
+use Rattle.std.proofs.Common.{◌≡◌, ◌+◌, ℕ, zero, suc, List, [], ◌∷◌, ◌++◌, map, refl, ap, sym, ◌∙◌, inl, inr, arith, append-nil, append_assoc}
 use Rattle.std.specs.Prelude.{◌⊎◌, Some}
 use Rattle.std.specs.Option.{option_and_then}
 use Rattle.std.proofs.lemmas.List.{map-append}
@@ -8,8 +8,6 @@ use Rattle.lotos_base.specs.Term.{Term, variable, node, Terms, no_terms, term_th
 use Rattle.lotos_base.specs.Path.{argument_at, subterm}
 use Rattle.rewriting_theory.specs.Places.{node_paths, argument_paths}
 use Rattle.rewriting_theory.proofs.PlaceListLemmas.{IsIn, in_either}
-use Rattle.sort_terms.specs.TermView.{term_of, terms_of}
-use Rattle.sort_terms.specs.declared.terms.Term.{Term as CodeTerm}
 use Rattle.term_store.specs.HandedOn.{first_head}
 use Rattle.equation_book.specs.NodePlaces.{PlaceOfNode, node_places, argument_places, IsHeadAt}
 
@@ -115,17 +113,3 @@ pub place_heads : (t : Term) (place : PlaceOfNode) → IsIn place (node_places [
 place_heads t place is =
     let below = heads_below [] t place is in
     λ f ts e. below.is_head f ts (ap (λ (path : List ℕ). subterm path t) (sym below.is_path) ∙ e)
-
--- ---- Places of the terms of a list of the code
-
-pub places_more : (xs : List CodeTerm) (i : ℕ) (x : CodeTerm) (path : List ℕ) (whole found more : List PlaceOfNode) → i < length xs
-    → x ≡ get_or xs i x → whole ≡ found ++ argument_places path i (terms_of (drop i xs))
-    → more ≡ found ++ node_places (path ++ i ∷ []) (term_of x)
-    → whole ≡ more ++ argument_places path (i + 1) (terms_of (drop (i + 1) xs))
-places_more xs i x path whole found more h e so_far is =
-    so_far
-    ∙ ap (λ (ys : List CodeTerm). found ++ argument_places path i (terms_of ys)) (drop-cons xs i x h)
-    ∙ ap (λ (y : CodeTerm). found ++ argument_places path i (terms_of (y ∷ drop (suc i) xs))) (sym e)
-    ∙ sym (append_assoc found (node_places (path ++ i ∷ []) (term_of x)) (argument_places path (suc i) (terms_of (drop (suc i) xs))))
-    ∙ ap (λ (ps : List PlaceOfNode). ps ++ argument_places path (suc i) (terms_of (drop (suc i) xs))) (sym is)
-    ∙ ap (λ (k : ℕ). more ++ argument_places path k (terms_of (drop k xs))) (sym (add-one i))

@@ -19,7 +19,7 @@ use Rattle.term_match.specs.Disagreement.{clashes}
 use Rattle.term_match.proofs.AgreeLemmas.{clashing_apart}
 use Rattle.term_match.specs.Matched.{IsPair}
 use Rattle.term_match.specs.ProfiledInstance.{ProfiledSubstitution, profiled_instance, profiled_instances, profiled_binding}
-use Rattle.term_match.specs.ProfiledPath.{profiled_subterm, profiled_argument_at, profiled_put_at, replaced}
+use Rattle.term_match.specs.ProfiledPath.{profiled_subterm, profiled_argument_at, profiled_put_at, with_part_replaced}
 use Rattle.term_match.proofs.PathLemmas.{subterm_bare, subterm_of, put_bare, replaced_at}
 use Rattle.term_match.proofs.InstanceLemmas.{instance_of}
 use Rattle.term_match.specs.Renumbering.{profiled_renaming}
@@ -237,17 +237,12 @@ nothing_unifies {signature = signature} {first = first} {second = second} {path 
 -- ---- What is put where the sorts agree
 
 pub put_there : (path : List ℕ) (part t old : ProfiledTerm) → profiled_subterm path t ≡ Some old → head_sort old ≡ head_sort part
-    → replaced path part t ≡ None → ⊥
+    → with_part_replaced path part t ≡ None → ⊥
 put_there path part t old found same none =
     let whole = put_at_possible path (bare part) (bare t) (bare old) (part_bare path t old found) in
     let nothing : profiled_put_at path part t ≡ None = replaced_at path part t old found same ∙ none in
     let clash : None ≡ Some whole.0 = ap (option_map bare) (sym nothing) ∙ put_bare path part t ∙ whole.1 in
     cc
-
--- so it is what is put there
-pub put_is : (path : List ℕ) (part t old whole : ProfiledTerm) → profiled_subterm path t ≡ Some old → head_sort old ≡ head_sort part
-    → Some whole ≡ replaced path part t → profiled_put_at path part t ≡ Some whole
-put_is path part t old whole found same is = replaced_at path part t old found same ∙ sym is
 
 -- ---- Where operations clash
 

@@ -20,7 +20,7 @@ use Rattle.equation_book.specs.Listing.{equation_at}
 use Rattle.equation_book.specs.Candidates.{all_least}
 use Rattle.equation_book.specs.Extended.{AddsPairsOf, IsPairAt, paths_in, listed_option}
 use Rattle.equation_book.specs.NodePlaces.{PlaceOfNode, node_places}
-use Rattle.equation_book.specs.PairView.{pair_of, terms_in, node_place_of}
+use Rattle.equation_book.specs.PairView.{critical_pair_of, terms_in, node_place_of}
 use Rattle.equation_book.specs.declared.pair.Pair.{Pair}
 use Rattle.equation_book.specs.declared.places.NodePlace.{NodePlace}
 use Rattle.equation_book.proofs.ExtendLemmas.{extended_nothing, extended_apart, extended_one, extended_then, extended_along, places_at-append, places_with_more}
@@ -143,9 +143,9 @@ pair_added rules i j one two path found more o first second d e other none some 
           first = firsts k;
           second = seconds k;
           path = sym at.is_path k;
-          peak = (pair_of pair).peak;
-          left = (pair_of pair).left;
-          right = (pair_of pair).right;
+          peak = (critical_pair_of pair).peak;
+          left = (critical_pair_of pair).left;
+          right = (critical_pair_of pair).right;
         })
         (at.over (signature_in rules) (rule_over rules i one first d) (rule_over rules j two second e))
 

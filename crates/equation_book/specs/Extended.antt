@@ -8,14 +8,14 @@ use Rattle.path_order.specs.declared.rule.Rule.{Rule}
 use Rattle.path_order.specs.declared.rules.Rules.{Rules}
 use Rattle.path_order.specs.RuleSides.{sides_of}
 use Rattle.equation_book.specs.Listing.{AddsPairs, ArePairsOver}
-use Rattle.equation_book.specs.PairView.{pairs_in, terms_in}
+use Rattle.equation_book.specs.PairView.{critical_pairs_in, terms_in}
 use Rattle.equation_book.specs.declared.pair.Pair.{Pair}
 use Rattle.equation_book.specs.declared.places.NodePlace.{NodePlace}
 
 -- The second list is the first one and after it the pairs of these places, and its terms are of the signature of the rules
 -- if those of the first one are.
 pub record AddsPairsOf (rules : Rules) (places : List PairPlace) (before after : List Pair) : Type 0 where
-  pub listed : AddsPairs (rules_in rules) places (pairs_in before) (pairs_in after)
+  pub listed : AddsPairs (rules_in rules) places (critical_pairs_in before) (critical_pairs_in after)
   pub over : ArePairsOver (signature_in rules) before → ArePairsOver (signature_in rules) after
 
 -- the paths of the places

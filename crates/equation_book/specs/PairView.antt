@@ -9,8 +9,8 @@ use Rattle.equation_book.specs.declared.pair.Pair.{Pair}
 use Rattle.equation_book.specs.declared.places.NodePlace.{NodePlace}
 
 -- the pair, with the numbers of equations
-abbrev pub pair_of : Pair → CriticalPair
-pair_of pair = record {
+abbrev pub critical_pair_of : Pair → CriticalPair
+critical_pair_of pair = record {
   first = pair.first;
   second = pair.second;
   path = pair.path.items;
@@ -20,8 +20,8 @@ pair_of pair = record {
 }
 
 -- the pairs
-abbrev pub pairs_in : List Pair → List CriticalPair
-pairs_in pairs = map pair_of pairs
+abbrev pub critical_pairs_in : List Pair → List CriticalPair
+critical_pairs_in pairs = map critical_pair_of pairs
 
 -- the terms of the pair
 abbrev pub terms_in : Pair → PairTerms

@@ -13,7 +13,7 @@ ghost use Rattle.equation_book.specs.Joining.{
 };
 ghost use Rattle.equation_book.specs.Listing.{ArePairsOver};
 ghost use Rattle.equation_book.specs.OverlapPair.{ArePairTermsOf};
-ghost use Rattle.equation_book.specs.PairView.{pair_of, pairs_in, terms_in};
+ghost use Rattle.equation_book.specs.PairView.{critical_pair_of, critical_pairs_in, terms_in};
 ghost use Rattle.path_order.specs.RulesView.{plain_rules_in, rules_in, signature_in};
 ghost use Rattle.rewriting_theory.specs.Places.{places_with};
 ghost use Rattle.rewriting_theory.specs.Rule.{Rule as PlainRule, IsRuleAt};
@@ -127,9 +127,9 @@ fn first_unjoined(
     requires over { ArePairsOver (signature_in rules.now) pairs.now }
     ensures finder { IsFinderOf rules.now finder.new }
     ensures none { IfOk result (λ o. IfNone o
-        (NoneUnjoinedAmong (plain_rules_in rules.now) (pairs_in pairs.now))) }
+        (NoneUnjoinedAmong (plain_rules_in rules.now) (critical_pairs_in pairs.now))) }
     ensures some { IfOk result (λ o. IfSome o (λ answer.
-        AnswersFirst (plain_rules_in rules.now) (pairs_in pairs.now) answer)) }
+        AnswersFirst (plain_rules_in rules.now) (critical_pairs_in pairs.now) answer)) }
     ensures over { IfOk result (λ o. IfSome o (λ answer.
         IsAnswerOver (signature_in rules.now) answer)) }
 {
@@ -152,9 +152,9 @@ fn unjoined_at(
     requires over { ArePairTermsOf (signature_in rules.now) (terms_in pair.now) }
     ensures finder { IsFinderOf rules.now finder.new }
     ensures none { IfOk result (λ o. IfNone o
-        (NoneUnjoinedAmong (plain_rules_in rules.now) (pair_of pair.now ∷ []))) }
+        (NoneUnjoinedAmong (plain_rules_in rules.now) (critical_pair_of pair.now ∷ []))) }
     ensures some { IfOk result (λ o. IfSome o (λ answer.
-        AnswersPair (plain_rules_in rules.now) (pair_of pair.now) answer)) }
+        AnswersPair (plain_rules_in rules.now) (critical_pair_of pair.now) answer)) }
     ensures over { IfOk result (λ o. IfSome o (λ answer.
         IsAnswerOver (signature_in rules.now) answer)) }
 {

@@ -3,7 +3,7 @@
 ghost use Rattle.equation_book.specs.Extended.{AddsPairsOf, IsPairAt, paths_in, listed_option};
 ghost use Rattle.equation_book.specs.Listing.{ArePairsOver, ListsAll};
 ghost use Rattle.equation_book.specs.OverlapPair.{HaveOneSignature, HaveNoOverlap};
-ghost use Rattle.equation_book.specs.PairView.{pairs_in};
+ghost use Rattle.equation_book.specs.PairView.{critical_pairs_in};
 ghost use Rattle.path_order.specs.RuleSides.{sides_of};
 ghost use Rattle.path_order.specs.RulesView.{plain_rules_in, rules_in, signature_in};
 ghost use Rattle.rewriting_theory.specs.Places.{is_root, places_at, places_with};
@@ -23,7 +23,8 @@ use term_store::{FirstIndex, indexed};
 /// All critical pairs of the rules: by the first rule, then by the second rule, then by the place
 /// in the left side of the first rule in preorder. A rule with itself at the root is no place.
 pub fn pairs(alloc: Global, rules: &Rules) -> Result<Vec<Pair>, NoMemory>
-    ensures listed { IfOk result (λ found. ListsAll (rules_in rules.now) (pairs_in found.items)) }
+    ensures listed { IfOk result
+        (λ found. ListsAll (rules_in rules.now) (critical_pairs_in found.items)) }
     ensures is_of { IfOk result (λ found. ArePairsOver (signature_in rules.now) found.items) }
 {
     let index = indexed(alloc, rules)?;

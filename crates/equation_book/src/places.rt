@@ -2,7 +2,7 @@
 
 ghost use Rattle.equation_book.specs.NodePlaces.{argument_places, node_places};
 ghost use Rattle.equation_book.specs.PairView.{node_place_of};
-ghost use Rattle.sort_terms.specs.TermView.{term_of, terms_of};
+ghost use Rattle.sort_terms.specs.TermView.{term_of, bare_terms_of};
 ghost use Rattle.std.specs.Prelude.{◌≡◌, ◌∷◌, ◌++◌, [], IfOk, map};
 
 use lotos_base::NoMemory;
@@ -63,7 +63,8 @@ fn places_among(
     mut found: Vec<NodePlace>,
 ) -> Result<Vec<NodePlace>, NoMemory>
     ensures { IfOk result (λ more. map node_place_of more.items
-        ≡ map node_place_of found.items ++ argument_places path.now 0 (terms_of terms.now.items)) }
+        ≡ map node_place_of found.items
+        ++ argument_places path.now 0 (bare_terms_of terms.now.items)) }
 {
     for i in 0..terms.len() {
         let below = with_position(alloc, path, i)?;

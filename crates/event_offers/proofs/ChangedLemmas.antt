@@ -8,7 +8,7 @@ use Rattle.behaviour_semantics.specs.Behaviour.{Test}
 use Rattle.behaviour_semantics.specs.Replacement.{test_with}
 use Rattle.sort_terms.specs.ProfiledTerm.{ProfiledTerm, ProfiledTerms, profiled_variable, profiled_node, no_profiled_terms, profiled_term_then, bare, all_bare}
 use Rattle.term_match.specs.ProfiledInstance.{ProfiledSubstitution, profiled_instance, profiled_instances}
-use Rattle.event_offers.specs.Renaming.{number_under, pair_instance, profiled_renaming_of, renaming_of}
+use Rattle.event_offers.specs.Renaming.{number_renamed, pair_instance, profiled_renaming_of, renaming_of}
 use Rattle.event_offers.specs.OfferView.{condition_of, condition_sides}
 use Rattle.event_offers.specs.declared.renaming.Renaming.{Renaming}
 use Rattle.sort_terms.specs.SortedView.{profiled_in, term_in}
@@ -49,7 +49,7 @@ same_map : {X : Type 0} (g : X → X) → ((x : X) → g x ≡ x) → (xs : List
 same_map g e [] = refl
 same_map g e (x ∷ xs) = λ i. sym (e x) i ∷ same_map g e xs i
 
-module _ (r : Renaming) (e : (n : ℕ) → number_under r n ≡ n) where
+module _ (r : Renaming) (e : (n : ℕ) → number_renamed r n ≡ n) where
   profiled_stays : (t : ProfiledTerm) → profiled_instance (profiled_renaming_of r) t ≡ t
   profiled_stays t = same_instance (profiled_renaming_of r) (λ n s. ap (λ m. profiled_variable m s) (e n)) t
 
@@ -64,17 +64,17 @@ module _ (r : Renaming) (e : (n : ℕ) → number_under r n ≡ n) where
   pair_stays : (pair : ProfiledTerm × ProfiledTerm) → pair_instance (profiled_renaming_of r) pair ≡ pair
   pair_stays pair = λ i. (profiled_stays pair.0 i, profiled_stays pair.1 i)
 
-pub terms_stay : (r : Renaming) → ((n : ℕ) → number_under r n ≡ n) → (ts : List Term) → ts ≡ map (substituted (renaming_of r)) ts
+pub terms_stay : (r : Renaming) → ((n : ℕ) → number_renamed r n ≡ n) → (ts : List Term) → ts ≡ map (substituted (renaming_of r)) ts
 terms_stay r e ts = same_map (substituted (renaming_of r)) (term_stays r e) ts
 
-pub profiles_stay : (r : Renaming) → ((n : ℕ) → number_under r n ≡ n) → (ts : List ProfiledTerm)
+pub profiles_stay : (r : Renaming) → ((n : ℕ) → number_renamed r n ≡ n) → (ts : List ProfiledTerm)
     → ts ≡ map (profiled_instance (profiled_renaming_of r)) ts
 profiles_stay r e ts = same_map (profiled_instance (profiled_renaming_of r)) (profiled_stays r e) ts
 
-pub tests_stay : (r : Renaming) → ((n : ℕ) → number_under r n ≡ n) → (tests : List Test) → tests ≡ map (test_with (renaming_of r)) tests
+pub tests_stay : (r : Renaming) → ((n : ℕ) → number_renamed r n ≡ n) → (tests : List Test) → tests ≡ map (test_with (renaming_of r)) tests
 tests_stay r e tests = same_map (test_with (renaming_of r)) (test_stays r e) tests
 
-pub pairs_stay : (r : Renaming) → ((n : ℕ) → number_under r n ≡ n) → (pairs : List (ProfiledTerm × ProfiledTerm))
+pub pairs_stay : (r : Renaming) → ((n : ℕ) → number_renamed r n ≡ n) → (pairs : List (ProfiledTerm × ProfiledTerm))
     → pairs ≡ map (pair_instance (profiled_renaming_of r)) pairs
 pairs_stay r e pairs = same_map (pair_instance (profiled_renaming_of r)) (pair_stays r e) pairs
 

@@ -3,14 +3,14 @@ use Rattle.std.proofs.Common.{◌≡◌, ◌++◌, ℕ, ◌+◌, List, [], ◌�
 use Rattle.std.specs.Prelude.{zip}
 use Rattle.std.proofs.lemmas.List.{length-map}
 use Rattle.lotos_base.specs.Signature.{Signature}
-use Rattle.lotos_base.specs.Sorting.{sort_of}
+use Rattle.lotos_base.specs.Sorting.{head_sort_of}
 use Rattle.lotos_base.specs.Term.{Term, variable}
 use Rattle.lotos_base.specs.Substitution.{Substitution}
 use Rattle.behaviour_semantics.specs.Behaviour.{all_gates}
 use Rattle.behaviour_semantics.specs.Draft as plain
 use Rattle.behaviour_semantics.specs.Draft.{draft_with}
-use Rattle.behaviour_semantics.specs.Join.{both_drafts, joined, raised}
-use Rattle.behaviour_semantics.specs.Rule.{is_same_sort, have_same_sorts, move_together}
+use Rattle.behaviour_semantics.specs.Join.{both_drafts, join_of_drafts, raised}
+use Rattle.behaviour_semantics.specs.Rule.{is_same_known_sort, have_same_sorts, move_together}
 use Rattle.behaviour_semantics.specs.DraftOrder.{IsInOrder}
 use Rattle.behaviour_semantics.specs.WellFormed.{Every}
 use Rattle.behaviour_semantics.proofs.ListLemmas.{Every-append}
@@ -37,7 +37,7 @@ use Rattle.event_offers.specs.declared.renaming.Renaming.TheVariants.{Raised}
 use Rattle.event_offers.proofs.RenamingLemmas.{renamed_terms_of, renamed_pairs_of}
 
 -- the signature gives a term of it the sort that its head tells
-pub sort_told : (signature : Signature) (t : ProfiledTerm) → IsOf signature t → sort_of signature (bare t) ≡ Some (head_sort t)
+pub sort_told : (signature : Signature) (t : ProfiledTerm) → IsOf signature t → head_sort_of signature (bare t) ≡ Some (head_sort t)
 sort_told signature (profiled_variable n s) h = refl
 sort_told signature (profiled_node f operation ts) h = rw h.0 refl
 
@@ -49,8 +49,8 @@ like_sorts signature [] (y ∷ ys) h k = refl
 like_sorts signature (x ∷ xs) [] h k = refl
 like_sorts signature (x ∷ xs) (y ∷ ys) h k =
     ap (λ (b : Bool). b && have_same_sorts signature (terms_of xs) (terms_of ys))
-    (ap (λ (o : Option ℕ). is_same_sort o (sort_of signature (term_in y))) (sort_told signature (profiled_in x) h.0)
-    ∙ ap (λ (o : Option ℕ). is_same_sort (Some (head_sort (profiled_in x))) o) (sort_told signature (profiled_in y) k.0))
+    (ap (λ (o : Option ℕ). is_same_known_sort o (head_sort_of signature (term_in y))) (sort_told signature (profiled_in x) h.0)
+    ∙ ap (λ (o : Option ℕ). is_same_known_sort (Some (head_sort (profiled_in x))) o) (sort_told signature (profiled_in y) k.0))
     ∙ ap (λ (b : Bool). nat_eq (head_sort (profiled_in x)) (head_sort (profiled_in y)) && b) (like_sorts signature xs ys h.1 k.1)
 
 together_like : (signature : Signature) (l r : Label) → AreTermsOf signature (label_profiles l) → AreTermsOf signature (label_profiles r)
@@ -79,7 +79,7 @@ all_raised by = λ i n s. variable (at n i) s
 -- where the labels are not alike there is no join
 pub not_joined : (signature : Signature) (left right : Draft) → like_labels left.label right.label ≡ false
     → AreTermsOf signature (label_profiles left.label) → AreTermsOf signature (label_profiles right.label)
-    → None ≡ joined signature (plain_draft left) (plain_draft right)
+    → None ≡ join_of_drafts signature (plain_draft left) (plain_draft right)
 not_joined signature left right e h k =
     let t : move_together signature all_gates (label_of left.label) (label_of right.label) ≡ false =
     together_like signature left.label right.label h k ∙ e in
@@ -90,7 +90,7 @@ not_joined signature left right e h k =
 pub are_joined : (signature : Signature) (left right made : Draft) → like_labels left.label right.label ≡ true
     → plain_draft made ≡ both_drafts (plain_draft left) (draft_with (renaming_of (Raised 0 (length left.leaves.items))) (plain_draft right))
     → AreTermsOf signature (label_profiles left.label) → AreTermsOf signature (label_profiles right.label)
-    → Some (plain_draft made) ≡ joined signature (plain_draft left) (plain_draft right)
+    → Some (plain_draft made) ≡ join_of_drafts signature (plain_draft left) (plain_draft right)
 are_joined signature left right made e is h k =
     let t : move_together signature all_gates (label_of left.label) (label_of right.label) ≡ true =
     together_like signature left.label right.label h k ∙ e in
@@ -117,7 +117,7 @@ pub record IsMadeOf (left right : Draft) (r : Renaming) (made : Draft) : Type 0 
       ++ zip (label_profiles left.label) (map (profiled_instance (profiled_renaming_of r)) (label_profiles right.label))
 
 pub joined_over : (signature : Signature) (left right made : Draft) (r : Renaming) → IsMadeOf left right r made
-    → Some (plain_draft made) ≡ joined signature (plain_draft left) (plain_draft right)
+    → Some (plain_draft made) ≡ join_of_drafts signature (plain_draft left) (plain_draft right)
     → IsDraftOver signature left → IsDraftOver signature right → IsDraftOver signature made
 joined_over signature left right made r m e h k = record {
   order = let s : SidesMayBeSolvedBefore = solved_sides in

@@ -5,6 +5,5 @@ pub mod ChangedLemmas
 pub mod JoinLemmas
 pub mod ValueLemmas
 pub mod InstanceLemmas
-pub mod SampleDrafts
 pub mod KeepingLemmas
 pub mod RebuildLemmas

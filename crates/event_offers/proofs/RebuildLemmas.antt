@@ -5,8 +5,8 @@ use Rattle.std.specs.declared.rc.Rc.{Rc}
 use Rattle.std.proofs.Math.Seq.{drop-append_seam, take-append_seam, take-length}
 use Rattle.std.proofs.lemmas.List.{take_more}
 use Rattle.sort_terms.specs.Operations.{operation_of}
-use Rattle.sort_terms.specs.ProfiledTerm.{ProfiledTerm, profiled_variable, profiled_node, profiled_term_then}
-use Rattle.sort_terms.specs.TermSize.{profiled_size, size_of, sizes_of}
+use Rattle.sort_terms.specs.ProfiledTerm.{ProfiledTerm, profiled_node, profiled_term_then}
+use Rattle.sort_terms.specs.TermSize.{size_of, sizes_of}
 use Rattle.sort_terms.specs.TermView.{profiled_of, profiled_terms}
 use Rattle.sort_terms.specs.declared.operations.Op.{Op}
 use Rattle.sort_terms.specs.declared.terms.Term.{Term}
@@ -122,13 +122,6 @@ sizes_last ts count before t is within at =
 -- all of them
 pub sizes_all : (ts : List Term) (count : ℕ) → count ≡ length ts → sizes_of (take count ts) ≡ sizes_of ts
 sizes_all ts count is = ap (λ n. sizes_of (take n ts)) is ∙ ap sizes_of (take-length ts)
-
-pub size_some : (t : Term) → 0 < size_of t
-size_some t = go (profiled_of t)
-  where
-    go : (p : ProfiledTerm) → 0 < profiled_size p
-    go (profiled_variable n s) = omega arith
-    go (profiled_node f o us) = omega arith
 
 pub nothing_first : (values : ProfiledSubstitution) (ts : List Term) (count : ℕ) (made : List ProfiledTerm) → count ≡ 0
     → made ≡ map (profiled_instance values) (map profiled_of (take count ts)) ++ made

@@ -16,7 +16,7 @@ use Rattle.behaviour_tree.specs.BehaviourTerms.{profiles_of}
 use Rattle.behaviour_tree.specs.BehaviourView.{terms_of}
 use Rattle.behaviour_tree.specs.Over.{AreTermsOf}
 use Rattle.behaviour_tree.specs.StateView.{environment_of}
-use Rattle.event_offers.specs.Values.{profiled_listed, profiled_values, values_of, SuitsTerm}
+use Rattle.event_offers.specs.Values.{profiled_listed, profiled_values, substitution_of_values, SuitsTerm}
 use Rattle.event_offers.specs.declared.valued.Values.{Values}
 use Rattle.event_offers.specs.declared.valued.Values.TheVariants.{One, Paired, Listed}
 use Rattle.event_offers.proofs.RenamingLemmas.{occurring_sort}
@@ -35,7 +35,8 @@ pub valued_fits : (values : Values) (t : Sorted) → SuitsTerm values (profiled_
     → FitsProfiles (profiled_instance (profiled_values values) (profiled_in t))
 valued_fits values t suits = instance_fits (profiled_values values) (profiled_in t) t.fits (λ n s o. (put_fits values n s, suits n s o))
 
-pub valued_bare : (values : Values) (t : ProfiledTerm) → bare (profiled_instance (profiled_values values) t) ≡ substituted (values_of
+pub valued_bare : (values : Values) (t : ProfiledTerm) → bare (profiled_instance (profiled_values values) t)
+    ≡ substituted (substitution_of_values
     values) (bare t)
 valued_bare values t = instance_bare (profiled_values values) t
 

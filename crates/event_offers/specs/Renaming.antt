@@ -7,17 +7,17 @@ use Rattle.event_offers.specs.declared.renaming.Renaming.{Renaming}
 use Rattle.event_offers.specs.declared.renaming.Renaming.TheVariants.{Raised, Lowered, Placed}
 
 -- what a number becomes
-abbrev pub number_under : Renaming → ℕ → ℕ
-number_under (Raised from by) n = if nat_lt n from then n else n + by
-number_under (Lowered by) n = n - by
-number_under (Placed places) n = unwrap_or (slice_get places.items n) n
+abbrev pub number_renamed : Renaming → ℕ → ℕ
+number_renamed (Raised from by) n = if nat_lt n from then n else n + by
+number_renamed (Lowered by) n = n - by
+number_renamed (Placed places) n = unwrap_or (slice_get places.items n) n
 
 -- the renaming as a substitution
 abbrev pub renaming_of : Renaming → Substitution
-renaming_of r = renaming (λ n s. number_under r n)
+renaming_of r = renaming (λ n s. number_renamed r n)
 
 abbrev pub profiled_renaming_of : Renaming → ProfiledSubstitution
-profiled_renaming_of r n s = profiled_variable (number_under r n) s
+profiled_renaming_of r n s = profiled_variable (number_renamed r n) s
 
 -- two terms with terms put in for their variables
 abbrev pub pair_instance : ProfiledSubstitution → ProfiledTerm × ProfiledTerm → ProfiledTerm × ProfiledTerm

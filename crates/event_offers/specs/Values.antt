@@ -22,8 +22,8 @@ profiled_values (One number value) = profiled_binding ((number, profiled_in valu
 profiled_values (Paired pairs) = profiled_binding (profiled_pairs pairs.now)
 profiled_values (Listed values) = profiled_listed (profiles_of values.now)
 
-abbrev pub values_of : Values → Substitution
-values_of values n s = bare (profiled_values values n s)
+abbrev pub substitution_of_values : Values → Substitution
+substitution_of_values values n s = bare (profiled_values values n s)
 
 -- What is put for each variable of the term has the sort of that variable.
 abbrev pub SuitsTerm : Values → ProfiledTerm → Type 0

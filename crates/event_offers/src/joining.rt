@@ -1,7 +1,7 @@
 //! The draft of both sides of a parallel.
 
 ghost use Rattle.behaviour_semantics.specs.Draft.{draft_with};
-ghost use Rattle.behaviour_semantics.specs.Join.{both_drafts, joined};
+ghost use Rattle.behaviour_semantics.specs.Join.{both_drafts, join_of_drafts};
 ghost use Rattle.behaviour_semantics.specs.Replacement.{test_with};
 ghost use Rattle.behaviour_semantics.specs.Draft.{label_with};
 ghost use Rattle.behaviour_semantics.specs.Rule.{label_values, pairwise};
@@ -49,7 +49,7 @@ pub fn join_offers(left: &Draft, right: &Draft) -> Result<Option<Draft>, NoMemor
         → AreTermsOf signature (label_profiles left.now.label)
         → AreTermsOf signature (label_profiles right.now.label)
         → option_map plain_draft o
-        ≡ joined signature (plain_draft left.now) (plain_draft right.now)) }
+        ≡ join_of_drafts signature (plain_draft left.now) (plain_draft right.now)) }
     ensures over { IfOk result (λ o. IfSome o (λ made. (signature : Signature)
         → IsDraftOver signature left.now → IsDraftOver signature right.now
         → IsDraftOver signature made)) }

@@ -13,7 +13,7 @@ ghost use Rattle.event_offers.specs.OfferView.{
   label_profiles,
 };
 ghost use Rattle.event_offers.specs.Renaming.{
-  number_under,
+  number_renamed,
   pair_instance,
   profiled_renaming_of,
   renaming_of,
@@ -60,7 +60,7 @@ pub enum Renaming {
 impl Renaming {
     /// What the number becomes.
     pub fn number(&self, number: u64) -> Result<u64, NoMemory>
-        ensures { IfOk result (λ n. n ≡ number_under self.now number) }
+        ensures { IfOk result (λ n. n ≡ number_renamed self.now number) }
     {
         match self {
             Renaming::Raised { from, by } => raised(number, *from, *by),
@@ -215,7 +215,7 @@ impl Renaming {
 
     // Whether it is seen at once that each number stays.
     fn changes_nothing(&self) -> bool
-        ensures { IsTrue result → (n : ℕ) → number_under self.now n ≡ n }
+        ensures { IsTrue result → (n : ℕ) → number_renamed self.now n ≡ n }
     {
         match self {
             Renaming::Raised { from: _, by } => *by == 0,

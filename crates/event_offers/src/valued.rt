@@ -1,6 +1,6 @@
 //! Terms put for the variables of terms.
 
-ghost use Rattle.event_offers.specs.Values.{profiled_listed, profiled_values, SuitsTerm, values_of};
+ghost use Rattle.event_offers.specs.Values.{profiled_listed, profiled_values, SuitsTerm, substitution_of_values};
 ghost use Rattle.sort_terms.specs.SortedView.{profiled_in, term_in};
 ghost use Rattle.sort_terms.specs.TermView.{profiled_of};
 ghost use Rattle.std.specs.Prelude.{◌≡◌, ◌∷◌, [], IfOk};
@@ -32,7 +32,7 @@ impl Values<'_> {
     pub fn put_into(&self, term: &Sorted) -> Result<Sorted, NoMemory>
         requires { SuitsTerm self.now (profiled_in term.now) }
         ensures same { IfOk result
-            (λ t. term_in t ≡ substituted (values_of self.now) (term_in term.now)) }
+            (λ t. term_in t ≡ substituted (substitution_of_values self.now) (term_in term.now)) }
         ensures profiles { IfOk result (λ t. profiled_in t
             ≡ profiled_instance (profiled_values self.now) (profiled_in term.now)) }
     {

@@ -14,8 +14,8 @@ use Rattle.lotos_base.specs.Tests.{term_eq}
 use Rattle.lotos_base.specs.Term.{Term, Terms, variable, node, no_terms, term_then}
 use Rattle.type_definitions.specs.Images.{operation_image, term_image, terms_image, variable_image, equation_image}
 use Rattle.type_definitions.specs.Presentation.{Presentation, nothing, with_new, is_same_operation, is_same_equation, is_same_place}
-use Rattle.type_definitions.specs.Union.{joined, joined_sort, joined_operation, joined_equations}
-use Rattle.type_definitions.specs.Flattened.{data_of}
+use Rattle.type_definitions.specs.Union.{joined_presentation, joined_sort, joined_operation, joined_equations}
+use Rattle.type_definitions.specs.Flattened.{flattened_data_of}
 use Rattle.type_flatten.proofs.ContainmentLemmas.{second_lies}
 use Rattle.type_flatten.proofs.ContributionLemmas.{contributions}
 use Rattle.type_flatten.proofs.OneToOneLemmas.{AreAlike, sort_name, same_operation}
@@ -67,7 +67,7 @@ equation_with place variables left right = record { place = place; variables = v
 abbrev anywhere : Place
 anywhere = placed 0 0 0
 
-module _ (q : Presentation) (fine : IsWellFormedData (data_of q)) where
+module _ (q : Presentation) (fine : IsWellFormedData (flattened_data_of q)) where
   abbrev to_sort : ℕ → ℕ
   to_sort = joined_sort nothing q
 
@@ -75,7 +75,7 @@ module _ (q : Presentation) (fine : IsWellFormedData (data_of q)) where
   to_operation = joined_operation nothing q
 
   -- its sorts and operations are those of the union
-  members_stay : (joined nothing q).signature ≡ q.signature
+  members_stay : (joined_presentation nothing q).signature ≡ q.signature
   members_stay = contributions.alone (record { at = record { place = anywhere; name = [] }; presentation = q }) fine.signature
 
   sort_stays : (s : ℕ) → IsSort q.signature s → to_sort s ≡ s

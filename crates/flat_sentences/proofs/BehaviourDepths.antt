@@ -13,6 +13,7 @@ use Rattle.syntax_trees.specs.WrittenBehaviour.{WrittenBehaviour, WrittenSign, c
 use Rattle.sort_terms.specs.ReadingOutcome.{unknown_in, SortedTerm, IsReading, IsPairReading}
 use Rattle.behaviour_semantics.specs.Behaviour.{Behaviour, stop, exit_with, action, inner_action, guard, choice, parallel, hide, enable, disable, let_be, choose_value, choose_gate, par_gate, call, relabel, Test, Offer, give, ask, ExitValue, exit_value, any_of, SynchronisationSet}
 use Rattle.behaviour_semantics.specs.WellFormed.{Every}
+use Rattle.sort_terms.proofs.OutcomeLemmas.{is_reading}
 use Rattle.scope_parts.specs.Resolution.{Resolution, resolved, beside, InFront}
 use Rattle.scope_parts.specs.Scope.{Binding, Scope, gates_at, bind, first_double}
 use Rattle.scope_parts.specs.Numbering.{Numbers, past, asked_for}
@@ -23,7 +24,7 @@ use Rattle.scope_parts.specs.Behaviours.{SignIs, BehaviourIs}
 use Rattle.scope_parts.proofs.FormedLists.{same_resolved, never_faulty, made_of, front_of, beside_of}
 use Rattle.specification_laws.specs.TermDepth.{term_depth}
 use Rattle.specification_laws.proofs.DepthLemmas.{IsShallow}
-use Rattle.specification_laws.proofs.ReadDepths.{shallow_parts, shallow_head, term_within, answer_is}
+use Rattle.specification_laws.proofs.ReadDepths.{shallow_parts, shallow_head, term_within}
 use Rattle.flat_sentences.proofs.PartsMeant.{declared_counted}
 
 -- ---- What is nested no deeper than the limit
@@ -80,7 +81,7 @@ module _ (limit : ℕ) where
       → SortedTermIs signature scope w expected (resolved reading) → IsShallow limit (nodes_of_term w) → TermFits reading.term
   sorted_fits signature scope (written head ws) expected reading is shallow =
       let reads : IsReading signature scope (written head ws) expected reading =
-      answer_is (unknown_in signature scope (written head ws)) head.place (IsReading signature scope (written head ws) expected) reading
+      is_reading (unknown_in signature scope (written head ws)) head.place (IsReading signature scope (written head ws) expected) reading
       is in
       from_one (term_depth reading.term) (term_within signature scope limit 1 (written head ws) reading.term reading.sort reads.0 shallow)
 
@@ -94,7 +95,7 @@ module _ (limit : ℕ) where
       → IsShallow limit (nodes_of_term right) → TestFits test
   pair_fits signature scope (written head ws) right test is first second =
       let reads : IsPairReading signature scope (written head ws) right is.0 =
-      answer_is (unknown_in signature scope (written head ws) ++ unknown_in signature scope right) head.place
+      is_reading (unknown_in signature scope (written head ws) ++ unknown_in signature scope right) head.place
       (IsPairReading signature scope (written head ws) right) is.0 is.1 in
       subst TestFits (sym is.2) (record {
         left =

@@ -11,18 +11,18 @@ use Rattle.syntax_trees.specs.WrittenEquation.{WrittenPremiss}
 use Rattle.syntax_trees.specs.WrittenBehaviour as written
 use Rattle.syntax_trees.specs.WrittenBehaviour.{WrittenBehaviour, WrittenExitValue, choice_sign, disabling, enabling}
 use Rattle.syntax_trees.specs.Grouping.{alone, split}
-use Rattle.syntax_trees.specs.Strength.{PlacedSign, joined}
-use Rattle.lotos_rows.specs.Words.{IsOf, left_out, there, Separated, last, Between, between}
+use Rattle.syntax_trees.specs.Strength.{PlacedSign, joined_by_sign}
+use Rattle.lotos_rows.specs.Words.{IsOfKind, left_out, there, Separated, last, Between, between}
 use Rattle.lotos_rows.specs.Names.{place_of, spelled, variables}
 use Rattle.lotos_rows.specs.Equations.{IsPremiss}
-use Rattle.lotos_rows.specs.Behaviours.{IsWrittenExitValue, IsSign, sign_choice, sign_parallel, sign_disabling, AreOperands, hiding, letting, choosing_values, choosing_gates, parallel_over_gates, inner_prefix, guarding, acting, offering, last_operand, before_sign, IsAtom, stopping, exiting, calling, in_brackets, IsBehaviour, grouped_operands}
+use Rattle.lotos_rows.specs.Behaviours.{IsWrittenExitValue, IsSign, sign_choice, sign_parallel, sign_disabling, AreOperands, hiding, letting, choosing_values, choosing_gates, parallel_over_gates, inner_prefix, guarding, acting, offering, last_operand, before_sign, IsAtom, stopping, exiting, calling, in_brackets, IsBehaviourText, grouped_operands}
 use Rattle.behaviour_semantics.specs.Behaviour.{Behaviour, stop, exit_with, action, inner_action, guard, choice, parallel, hide, enable, disable, let_be, choose_value, choose_gate, par_gate, call, relabel, Test, Offer, ExitValue, SynchronisationSet, Process, asked_variables, let_variables, sorts_of}
 use Rattle.behaviour_semantics.specs.WellFormed.{Every}
 use Rattle.printed_texts.specs.BehaviourText.{Naming, called_text, stands_in_brackets}
 use Rattle.flat_sentences.specs.Meanings.{PrintedScope, behind_variables, behind_gates, behind_left, ExitValueMeans, OfferMeans, TestMeans, PredicateMeans, CallMeans, BehaviourMeans}
 use Rattle.flat_sentences.specs.WrittenBehaviours.{Correspond, IsExitValueWritten, IsTestWritten, IsBehaviourWritten, stop_written, exit_written, action_written, inner_written, guard_written, choice_written, parallel_written, hide_written, enable_written, disable_written, let_written, value_choice_written, gate_choice_written, par_written, call_written}
 use Rattle.flat_sentences.specs.PrintedWords.{Word, AreWords, a_word, name_word, commas_words, round_words, bracketed_words, term_words, gate_word, gates_words, declared_words, test_words, predicate_words, offers_words, exit_value_words, round_list_words, square_list_words, meet_words, enable_words, binding_words, gate_choice_words, unit_words, behaviour_words}
-use Rattle.flat_sentences.specs.WordLaws.{HasBinaryInfixes, HasTextForm, IsSentence, BehaviourWordsAreSentences}
+use Rattle.flat_sentences.specs.WordLaws.{HasBinaryInfixes, HasTextForm, IsFittingSentence, BehaviourWordsAreSentences}
 use Rattle.flat_sentences.proofs.WordParts.{first_of, parts_of, one_of, of_kind, Says, round_says}
 use Rattle.flat_sentences.proofs.PartSentences.{bracketed_gates_say, arguments_say, predicate_says, gates_say, declared_says, meet_says, enable_says, gate_choice_says, test_says, offers_of, exit_values_say, bindings_say}
 
@@ -61,11 +61,11 @@ module _ (text : List ℕ) where
 
   -- what a behaviour that stands in brackets as a part is said to be, and one that does not
   abbrev SaidAs : Bool → (WrittenBehaviour → Type 0) → List Token → Type 0
-  SaidAs true fits tokens = IsSentence (IsBehaviour text) fits tokens
+  SaidAs true fits tokens = IsFittingSentence (IsBehaviourText text) fits tokens
   SaidAs false fits tokens = IsOperand fits tokens
 
   whole_said : (flag : Bool) (fits : WrittenBehaviour → Type 0) (tokens : List Token) → SaidAs flag fits tokens
-      → IsSentence (IsBehaviour text) fits tokens
+      → IsFittingSentence (IsBehaviourText text) fits tokens
   whole_said true fits tokens said = said
   whole_said false fits tokens said = record {
     thing = said.thing;
@@ -77,10 +77,10 @@ module _ (text : List ℕ) where
       → ((tokens : List Token) → AreWords text tokens words → SaidAs flag fits tokens)
       → (tokens : List Token) → AreWords text tokens (bracketed_words flag words) → IsOperand fits tokens
   unit_said true fits words says tokens are =
-      let inside = round_says text words (IsBehaviour text) fits says tokens are in
+      let inside = round_says text words (IsBehaviourText text) fits says tokens are in
       go tokens inside.thing inside.is_one inside.fitting
     where
-      go : (ts : List Token) (w : WrittenBehaviour) → Between LEFT_PARENTHESIS RIGHT_PARENTHESIS (IsBehaviour text) ts w → fits w
+      go : (ts : List Token) (w : WrittenBehaviour) → Between LEFT_PARENTHESIS RIGHT_PARENTHESIS (IsBehaviourText text) ts w → fits w
           → IsOperand fits ts
       go ts w (between left whole right) fit = operand_atom fits ts w (in_brackets left whole right) fit
   unit_said false fits words says tokens are = says tokens are
@@ -89,7 +89,7 @@ module _ (text : List ℕ) where
 
   binary_said : (b_fits c_fits : WrittenBehaviour → Type 0) (sign : PlacedSign) (left signs right : List Token)
       → (l : IsOperand b_fits left) → IsSign text signs sign → (r : IsOperand c_fits right)
-      → IsBehaviour text (left ++ (signs ++ right)) (joined sign l.thing r.thing)
+      → IsBehaviourText text (left ++ (signs ++ right)) (joined_by_sign sign l.thing r.thing)
   binary_said b_fits c_fits sign left signs right l is_sign r =
       grouped_operands
       (l.operand (signs ++ right) (r.thing ∷ []) (sign ∷ []) (by_sign is_sign (alone_operand c_fits right r)))
@@ -259,7 +259,7 @@ module _ (text : List ℕ) where
       where
         go : (ts : List Token) (sign : Token) (rest : List Token) (premiss : WrittenPremiss)
             → Between LEFT_BRACKET RIGHT_BRACKET (IsPremiss text) ts premiss → IsTestWritten naming scope.names test premiss
-            → IsOf ARROW sign → IsOperand (Fits scope.names b) rest → IsOperand (Fits scope.names (guard test b)) (ts ++ sign ∷ rest)
+            → IsOfKind ARROW sign → IsOperand (Fits scope.names b) rest → IsOperand (Fits scope.names (guard test b)) (ts ++ sign ∷ rest)
         go ts sign rest premiss (between {open_token = left} {close_token = right} {tokens = inner} begin is close) fit arrow next =
             record {
               thing = written.guard (place_of left) premiss next.thing;
@@ -275,9 +275,9 @@ module _ (text : List ℕ) where
     -- ---- Word forms
 
     hide_said : (names : List Variable) (gate : ℕ) (gates : List ℕ) (b : Behaviour) (tokens : List Token)
-        → Says text (behaviour_words naming names b) (IsBehaviour text) (Fits names b)
+        → Says text (behaviour_words naming names b) (IsBehaviourText text) (Fits names b)
         → AreWords text tokens (behaviour_words naming names (hide (gate ∷ gates) b))
-        → IsSentence (IsBehaviour text) (Fits names (hide (gate ∷ gates) b)) tokens
+        → IsFittingSentence (IsBehaviourText text) (Fits names (hide (gate ∷ gates) b)) tokens
     hide_said names gate gates b tokens says are =
         let word : Word = a_word HIDE (codes "hide") in
         let in_ : Word = a_word IN (codes "in") in
@@ -287,7 +287,7 @@ module _ (text : List ℕ) where
         let sign = first_of text parts.right in_ words parts.right_are in
         let given = gates_say text naming well binary gate gates parts.left parts.left_are in
         let inside = says sign.rest sign.are_words in
-        subst (IsSentence (IsBehaviour text) (Fits names (hide (gate ∷ gates) b)))
+        subst (IsFittingSentence (IsBehaviourText text) (Fits names (hide (gate ∷ gates) b)))
         (sym (begin.joined ∙ ap (λ (ts : List Token). begin.first ∷ ts)
         (parts.joined ∙ ap (λ (ts : List Token). parts.left ++ ts) sign.joined))) (record {
           thing = written.hide (place_of begin.first) given.thing inside.thing;
@@ -300,10 +300,10 @@ module _ (text : List ℕ) where
 
     let_said : (scope : PrintedScope) (bound : Variable × Term) (bindings : List (Variable × Term)) (b : Behaviour) (tokens : List Token)
         → BehaviourMeans naming processes scope (let_be (bound ∷ bindings) b)
-        → Says text (behaviour_words naming (let_variables (bound ∷ bindings) ++ scope.names) b) (IsBehaviour text)
+        → Says text (behaviour_words naming (let_variables (bound ∷ bindings) ++ scope.names) b) (IsBehaviourText text)
         (Fits (let_variables (bound ∷ bindings) ++ scope.names) b)
         → AreWords text tokens (behaviour_words naming scope.names (let_be (bound ∷ bindings) b))
-        → IsSentence (IsBehaviour text) (Fits scope.names (let_be (bound ∷ bindings) b)) tokens
+        → IsFittingSentence (IsBehaviourText text) (Fits scope.names (let_be (bound ∷ bindings) b)) tokens
     let_said scope bound bindings b tokens means says are =
         let word : Word = a_word LET (codes "let") in
         let in_ : Word = a_word IN (codes "in") in
@@ -314,7 +314,7 @@ module _ (text : List ℕ) where
         let sign = first_of text parts.right in_ words parts.right_are in
         let given = bindings_say text naming well binary scope bound bindings means.0 parts.left parts.left_are in
         let inside = says sign.rest sign.are_words in
-        subst (IsSentence (IsBehaviour text) (Fits scope.names (let_be (bound ∷ bindings) b)))
+        subst (IsFittingSentence (IsBehaviourText text) (Fits scope.names (let_be (bound ∷ bindings) b)))
         (sym (begin.joined ∙ ap (λ (ts : List Token). begin.first ∷ ts)
         (parts.joined ∙ ap (λ (ts : List Token). parts.left ++ ts) sign.joined))) (record {
           thing = written.let_be (place_of begin.first) given.thing inside.thing;
@@ -326,9 +326,9 @@ module _ (text : List ℕ) where
         })
 
     value_choice_said : (names : List Variable) (x : Variable) (b : Behaviour) (tokens : List Token)
-        → Says text (behaviour_words naming (x ∷ names) b) (IsBehaviour text) (Fits (x ∷ names) b)
+        → Says text (behaviour_words naming (x ∷ names) b) (IsBehaviourText text) (Fits (x ∷ names) b)
         → AreWords text tokens (behaviour_words naming names (choose_value x b))
-        → IsSentence (IsBehaviour text) (Fits names (choose_value x b)) tokens
+        → IsFittingSentence (IsBehaviourText text) (Fits names (choose_value x b)) tokens
     value_choice_said names x b tokens says are =
         let word : Word = a_word CHOICE (codes "choice") in
         let sign_ : Word = a_word CHOICE_SIGN (codes "[]") in
@@ -338,7 +338,7 @@ module _ (text : List ℕ) where
         let sign = first_of text parts.right sign_ words parts.right_are in
         let given = declared_says text naming well binary x parts.left parts.left_are in
         let inside = says sign.rest sign.are_words in
-        subst (IsSentence (IsBehaviour text) (Fits names (choose_value x b)))
+        subst (IsFittingSentence (IsBehaviourText text) (Fits names (choose_value x b)))
         (sym (begin.joined ∙ ap (λ (ts : List Token). begin.first ∷ ts)
         (parts.joined ∙ ap (λ (ts : List Token). parts.left ++ ts) sign.joined))) (record {
           thing = written.choose_value (place_of begin.first) (given.thing ∷ []) inside.thing;
@@ -351,9 +351,9 @@ module _ (text : List ℕ) where
         })
 
     gate_choice_said : (names : List Variable) (gate g : ℕ) (gates : List ℕ) (b : Behaviour) (tokens : List Token)
-        → Says text (behaviour_words naming names b) (IsBehaviour text) (Fits names b)
+        → Says text (behaviour_words naming names b) (IsBehaviourText text) (Fits names b)
         → AreWords text tokens (behaviour_words naming names (choose_gate gate (g ∷ gates) b))
-        → IsSentence (IsBehaviour text) (Fits names (choose_gate gate (g ∷ gates) b)) tokens
+        → IsFittingSentence (IsBehaviourText text) (Fits names (choose_gate gate (g ∷ gates) b)) tokens
     gate_choice_said names gate g gates b tokens says are =
         let word : Word = a_word CHOICE (codes "choice") in
         let sign_ : Word = a_word CHOICE_SIGN (codes "[]") in
@@ -364,7 +364,7 @@ module _ (text : List ℕ) where
         let sign = first_of text parts.right sign_ words parts.right_are in
         let given = gate_choice_says text naming well binary gate g gates parts.left parts.left_are in
         let inside = says sign.rest sign.are_words in
-        subst (IsSentence (IsBehaviour text) (Fits names (choose_gate gate (g ∷ gates) b)))
+        subst (IsFittingSentence (IsBehaviourText text) (Fits names (choose_gate gate (g ∷ gates) b)))
         (sym (begin.joined ∙ ap (λ (ts : List Token). begin.first ∷ ts)
         (parts.joined ∙ ap (λ (ts : List Token). parts.left ++ ts) sign.joined))) (record {
           thing = written.choose_gate (place_of begin.first) (given.thing ∷ []) inside.thing;
@@ -377,9 +377,9 @@ module _ (text : List ℕ) where
         })
 
     par_said : (names : List Variable) (gate g : ℕ) (gates : List ℕ) (meet : SynchronisationSet) (b : Behaviour) (tokens : List Token)
-        → Says text (behaviour_words naming names b) (IsBehaviour text) (Fits names b)
+        → Says text (behaviour_words naming names b) (IsBehaviourText text) (Fits names b)
         → AreWords text tokens (behaviour_words naming names (par_gate gate (g ∷ gates) meet b))
-        → IsSentence (IsBehaviour text) (Fits names (par_gate gate (g ∷ gates) meet b)) tokens
+        → IsFittingSentence (IsBehaviourText text) (Fits names (par_gate gate (g ∷ gates) meet b)) tokens
     par_said names gate g gates meet b tokens says are =
         let word : Word = a_word PAR (codes "par") in
         let words : List Word = behaviour_words naming names b in
@@ -390,7 +390,7 @@ module _ (text : List ℕ) where
         let given = gate_choice_says text naming well binary gate g gates parts.left parts.left_are in
         let sign = meet_says text naming well binary meet behind.left behind.left_are in
         let inside = says behind.right behind.right_are in
-        subst (IsSentence (IsBehaviour text) (Fits names (par_gate gate (g ∷ gates) meet b)))
+        subst (IsFittingSentence (IsBehaviourText text) (Fits names (par_gate gate (g ∷ gates) meet b)))
         (sym (begin.joined ∙ ap (λ (ts : List Token). begin.first ∷ ts)
         (parts.joined ∙ ap (λ (ts : List Token). parts.left ++ ts) behind.joined))) (record {
           thing = written.par_gate (place_of begin.first) (given.thing ∷ []) sign.thing.sign inside.thing;
@@ -431,14 +431,14 @@ module _ (text : List ℕ) where
         }
 
     simple_sign : (fits b_fits c_fits : WrittenBehaviour → Type 0) (word : Word) (sign : Token → PlacedSign) (tokens : List Token)
-        → ((token : Token) → IsOf word.kind token → IsSign text (token ∷ []) (sign token))
-        → ((token : Token) (v w : WrittenBehaviour) → b_fits v → c_fits w → fits (joined (sign token) v w))
-        → AreThree b_fits c_fits (word ∷ []) tokens → IsSentence (IsBehaviour text) fits tokens
+        → ((token : Token) → IsOfKind word.kind token → IsSign text (token ∷ []) (sign token))
+        → ((token : Token) (v w : WrittenBehaviour) → b_fits v → c_fits w → fits (joined_by_sign (sign token) v w))
+        → AreThree b_fits c_fits (word ∷ []) tokens → IsFittingSentence (IsBehaviourText text) fits tokens
     simple_sign fits b_fits c_fits word sign tokens is_sign fit three =
         let one = one_of text three.middle word three.middle_are in
-        subst (IsSentence (IsBehaviour text) fits)
+        subst (IsFittingSentence (IsBehaviourText text) fits)
         (sym (three.whole ∙ ap (λ (ts : List Token). three.left ++ (ts ++ three.right)) one.alone)) (record {
-          thing = joined (sign one.token) three.one.thing three.other.thing;
+          thing = joined_by_sign (sign one.token) three.one.thing three.other.thing;
           is_one =
               binary_said b_fits c_fits (sign one.token) three.left (one.token ∷ []) three.right three.one
               (is_sign one.token (of_kind text word one.token one.is_word)) three.other;
@@ -447,11 +447,11 @@ module _ (text : List ℕ) where
 
     parallel_said : (names : List Variable) (meet : SynchronisationSet) (b c : Behaviour) (tokens : List Token)
         → AreThree (Fits names b) (Fits names c) (meet_words naming meet) tokens
-        → IsSentence (IsBehaviour text) (Fits names (parallel meet b c)) tokens
+        → IsFittingSentence (IsBehaviourText text) (Fits names (parallel meet b c)) tokens
     parallel_said names meet b c tokens three =
         let sign = meet_says text naming well binary meet three.middle three.middle_are in
-        subst (IsSentence (IsBehaviour text) (Fits names (parallel meet b c))) (sym three.whole) (record {
-          thing = joined sign.thing three.one.thing three.other.thing;
+        subst (IsFittingSentence (IsBehaviourText text) (Fits names (parallel meet b c))) (sym three.whole) (record {
+          thing = joined_by_sign sign.thing three.one.thing three.other.thing;
           is_one =
               binary_said (Fits names b) (Fits names c) sign.thing three.left three.middle three.right three.one (sign_parallel sign.is_one)
               three.other;
@@ -460,11 +460,11 @@ module _ (text : List ℕ) where
 
     enable_said : (names xs : List Variable) (b c : Behaviour) (tokens : List Token)
         → AreThree (Fits names b) (Fits (xs ++ names) c) (enable_words naming xs) tokens
-        → IsSentence (IsBehaviour text) (Fits names (enable b xs c)) tokens
+        → IsFittingSentence (IsBehaviourText text) (Fits names (enable b xs c)) tokens
     enable_said names xs b c tokens three =
         let sign = enable_says text naming well binary xs three.middle three.middle_are in
-        subst (IsSentence (IsBehaviour text) (Fits names (enable b xs c))) (sym three.whole) (record {
-          thing = joined sign.thing three.one.thing three.other.thing;
+        subst (IsFittingSentence (IsBehaviourText text) (Fits names (enable b xs c))) (sym three.whole) (record {
+          thing = joined_by_sign sign.thing three.one.thing three.other.thing;
           is_one =
               binary_said (Fits names b) (Fits (xs ++ names) c) sign.thing three.left three.middle three.right three.one sign.is_one
               three.other;
@@ -497,7 +497,7 @@ module _ (text : List ℕ) where
         unit_said (stands_in_brackets b) (Fits scope.names b) (behaviour_words naming scope.names b) (says scope form means)
 
     whole_of : (b : Behaviour) (scope : PrintedScope) → SaysSo b → HasTextForm b → BehaviourMeans naming processes scope b
-        → Says text (behaviour_words naming scope.names b) (IsBehaviour text) (Fits scope.names b)
+        → Says text (behaviour_words naming scope.names b) (IsBehaviourText text) (Fits scope.names b)
     whole_of b scope says form means tokens are =
         whole_said (stands_in_brackets b) (Fits scope.names b) tokens (says scope form means tokens are)
 
@@ -558,7 +558,7 @@ module _ (text : List ℕ) where
 
 pub whole_of_words : (text : List ℕ) (naming : Naming) → IsWellFormedSignature naming.signature → HasBinaryInfixes naming.signature
     → (processes : List Process) (b : Behaviour) (scope : PrintedScope) → HasTextForm b → BehaviourMeans naming processes scope b
-    → Says text (behaviour_words naming scope.names b) (IsBehaviour text) (IsBehaviourWritten naming scope.names b)
+    → Says text (behaviour_words naming scope.names b) (IsBehaviourText text) (IsBehaviourWritten naming scope.names b)
 whole_of_words text naming well binary processes b scope form means =
     whole_of text naming well binary processes b scope (said text naming well binary processes b) form means
 

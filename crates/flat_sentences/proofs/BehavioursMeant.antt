@@ -1,7 +1,7 @@
 -- What a behaviour as it is written stands for means itself where it is written.
 use Rattle.std.proofs.Common.{◌≡◌, ℕ, ◌+◌, ◌<◌, Bool, true, false, nat_eq, List, [], ◌++◌, map, length, refl, ap, sym, ◌∙◌, subst, arith}
 use Rattle.std.proofs.lemmas.Bool.{eqb-true}
-use Rattle.std.specs.Prelude.{Option, None, Some, slice_get, if◌then◌else◌}
+use Rattle.std.specs.Prelude.{Option, Some, slice_get, if◌then◌else◌}
 use Rattle.lotos_base.specs.Equation.{Place, Variable}
 use Rattle.lotos_base.specs.WrittenTerm.{PlacedName, WrittenTerm}
 use Rattle.syntax_trees.specs.WrittenBehaviour as written
@@ -12,26 +12,22 @@ use Rattle.specification_laws.specs.HandedOn.{Naming, variables_bound}
 use Rattle.scope_parts.specs.ScopeFault.{gate_count, value_count}
 use Rattle.scope_parts.specs.Resolution.{resolved, faulty}
 use Rattle.scope_parts.specs.Scope.{Callable, bind_all, callable_named, found_process, first_double}
-use Rattle.scope_parts.specs.Numbering.{Numbers, spelled, each_once, choice_names, gates_in, past_gates, past_variables, past}
+use Rattle.scope_parts.specs.Numbering.{Numbers, spelled_names, each_once, choice_names, gates_in, past_gates, past_variables, past}
 use Rattle.scope_parts.specs.Terms.{ValuesAre}
 use Rattle.scope_parts.specs.Choices.{choices_follow, choices_at, signs_follow, with_signs, placed_choices, under_par}
 use Rattle.scope_parts.specs.Behaviours.{numbers_from, counted_call, CallIs, SignIs, BehaviourIs}
 use Rattle.scope_parts.proofs.FormedLists.{same_resolved, never_faulty, made_of, beside_of}
-use Rattle.scope_parts.proofs.FormedBehaviours.{length_names}
+use Rattle.scope_parts.proofs.FormedBehaviours.{length_names, found_callable}
+use Rattle.scope_parts.proofs.FormedDefinitions.{length_numbers}
 use Rattle.specification_laws.proofs.HandedOn.{behaviour_made}
 use Rattle.flat_sentences.specs.Meanings.{GateMeans, gate_texts, NoneStandsTwice, PrintedScope, behind_variables, behind_left, scope_with, BehaviourMeans}
 use Rattle.flat_sentences.specs.MeaningLaws.{IsCallableOf, LeavesOutTruth, AreCallable, FitsNaming, AreNamesFrom, ResolvedBehavioursMeanThemselves}
 use Rattle.flat_sentences.proofs.BehavioursResolved.{past_is}
-use Rattle.flat_sentences.proofs.PartsMeant.{once_none_twice, variables_meant, declared_counted, gate_meant, gates_meant, known_more, texts_of_row, names_first, names_last, row_again, row_long, every_map, IsKnownVariable, fits_more}
+use Rattle.flat_sentences.proofs.PartsMeant.{once_none_twice, variables_meant, declared_counted, gate_meant, gates_meant, known_more, texts_of_row, names_first, names_last, row_again, every_map, IsKnownVariable, fits_more}
 use Rattle.flat_sentences.proofs.TermsMeant.{exit_values_meant, values_meant, test_meant, predicate_meant, offers_meant, let_meant}
 use Rattle.flat_sentences.proofs.ChoicesMeant.{at, gates_under_meant, pars_under_meant, values_under_meant}
 
 -- ---- Calls
-
-found_there : (place : Place) (name : List ℕ) (found : Option Callable) (callable : Callable)
-    → resolved callable ≡ found_process place name found → found ≡ Some callable
-found_there place name None callable is = never_faulty callable _ is
-found_there place name (Some other) callable is = ap Some (sym (same_resolved callable other is))
 
 record IsCounted (gates values : ℕ) (one callable : Callable) : Type 0 where
   same : callable ≡ one
@@ -102,7 +98,7 @@ module _ (naming : Naming) (processes : List Process) (callables : List Callable
       seen : (process : Process) × (slice_get processes callable.number ≡ Some process) × IsCallableOf callable.number process callable
       seen =
           called name callable
-          (found_there place name (callable_named callables name) first.0 first.1 ∙ ap Some (sym counted.same))
+          (found_callable place name (callable_named callables name) first.0 first.1 ∙ ap Some (sym counted.same))
 
       gates : Every (GateMeans naming scope.gates) is.2.0 × (length is.2.0 ≡ length given)
       gates = gates_meant naming scope.gates given is.2.0 fits.gates is.2.1
@@ -163,24 +159,24 @@ module _ (naming : Naming) (processes : List Process) (callables : List Callable
 
   hidden_meant : (scope : PrintedScope) (given : List PlacedName) (inside : WrittenBehaviour) (b within : Behaviour)
       → FitsNaming naming scope → MeansThere inside
-      → AreNamesFrom naming scope.numbers.gate (each_once (spelled given) ++ gates_in inside)
+      → AreNamesFrom naming scope.numbers.gate (each_once (spelled_names given) ++ gates_in inside)
       → BehaviourIs naming.signature
-      (scope_with callables (at (bind_all (each_once (spelled given)) scope.numbers.gate scope.gates) scope.variables scope.names
-      (past_gates (length (each_once (spelled given))) scope.numbers)))
-      (past_gates (length (each_once (spelled given))) scope.numbers) inside (resolved within)
-      → b ≡ hide (numbers_from scope.numbers.gate (each_once (spelled given))) within
+      (scope_with callables (at (bind_all (each_once (spelled_names given)) scope.numbers.gate scope.gates) scope.variables scope.names
+      (past_gates (length (each_once (spelled_names given))) scope.numbers)))
+      (past_gates (length (each_once (spelled_names given))) scope.numbers) inside (resolved within)
+      → b ≡ hide (numbers_from scope.numbers.gate (each_once (spelled_names given))) within
       → BehaviourMeans naming processes scope b
   hidden_meant scope given inside b within fits means named is same =
       subst (BehaviourMeans naming processes scope) (sym same) (
         record {
           numbered = row_again next names;
-          distinct = subst (λ (ns : List (List ℕ)). NoneStandsTwice [] ns) (sym texts) (once_none_twice [] (spelled given));
+          distinct = subst (λ (ns : List (List ℕ)). NoneStandsTwice [] ns) (sym texts) (once_none_twice [] (spelled_names given));
         },
         subst
             (λ (n : ℕ). BehaviourMeans naming processes
             (at (bind_all (gate_texts naming (numbers_from next names)) next scope.gates) scope.variables scope.names
             (past_gates n scope.numbers)) within)
-            (sym (row_long next names))
+            (sym (length_numbers next names))
             (subst
             (λ (ns : List (List ℕ)). BehaviourMeans naming processes
             (at (bind_all ns next scope.gates) scope.variables scope.names (past_gates (length names) scope.numbers)) within)
@@ -195,7 +191,7 @@ module _ (naming : Naming) (processes : List Process) (callables : List Callable
       next = scope.numbers.gate
 
       names : List (List ℕ)
-      names = each_once (spelled given)
+      names = each_once (spelled_names given)
 
       first : AreNamesFrom naming next names
       first = names_first naming names (gates_in inside) next named

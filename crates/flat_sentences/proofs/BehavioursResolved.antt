@@ -4,27 +4,28 @@ use Rattle.std.proofs.lemmas.Bool.{eq-eqb}
 use Rattle.std.specs.Prelude.{Option, Some, if◌then◌else◌}
 use Rattle.lotos_base.specs.Signature.{Signature, IsWellFormedSignature}
 use Rattle.lotos_base.specs.Equation.{Place, Variable}
-use Rattle.lotos_base.specs.Term.{Term, terms_of}
+use Rattle.lotos_base.specs.Term.{Term, argument_list_of}
 use Rattle.lotos_base.specs.WrittenTerm.{PlacedName, WrittenTerm, written_terms}
 use Rattle.syntax_trees.specs.WrittenVariable.{WrittenVariable}
 use Rattle.syntax_trees.specs.WrittenBehaviour as written
 use Rattle.syntax_trees.specs.WrittenBehaviour.{WrittenBehaviour, WrittenSign, WrittenGateChoice, choice_sign, interleaving, full_synchronisation, synchronising, disabling, enabling}
 use Rattle.behaviour_semantics.specs.Behaviour.{Behaviour, choice, parallel, hide, enable, disable, call, SynchronisationSet, no_gates, all_gates, at_gates, Process, asked_variables, let_variables, sorts_of}
-use Rattle.specification_laws.specs.HandedOn.{Naming, gate_text, called_text, Follow, variables_in, gates_bound, variables_bound}
+use Rattle.specification_laws.specs.HandedOn.{Naming, gate_text, called_text, Follow, declared_variables_in, gates_bound, variables_bound}
 use Rattle.scope_parts.specs.Resolution.{resolved, faulty, Made}
 use Rattle.scope_parts.specs.ScopeFault.{gate_count, value_count}
 use Rattle.scope_parts.specs.Scope.{Binding, Callable, callable_named, found_process, bind_all}
-use Rattle.scope_parts.specs.Numbering.{Numbers, spelled, each_once, asked_for, gates_in, variable_count, past_gates, past_variables, past}
+use Rattle.scope_parts.specs.Numbering.{Numbers, spelled_names, each_once, asked_for, gates_in, variable_count, past_gates, past_variables, past}
 use Rattle.scope_parts.specs.Terms.{ValuesAre}
 use Rattle.scope_parts.specs.Behaviours.{with_gates, numbers_from, counted_call, CallIs, SignIs, BehaviourIs}
 use Rattle.scope_parts.proofs.FormedDefinitions.{length_spelled}
+use Rattle.scope_parts.proofs.AnswerLemmas.{value_then}
 use Rattle.specification_laws.proofs.HandedOn.{IsMade, behaviour_made, count_is}
 use Rattle.specification_laws.specs.WrittenAs.{AreWrittenAs}
 use Rattle.flat_sentences.specs.Meanings.{gate_texts, PrintedScope, behind_variables, behind_gates, past_behaviour, behind_left, scope_with, AreDeclaredGates, CallMeans, MeetMeans, BehaviourMeans}
 use Rattle.specification_laws.specs.TermMeanings.{TermsMean}
 use Rattle.flat_sentences.specs.WrittenBehaviours.{Correspond, IsVariableWritten, IsBindingWritten, AreGatesWritten, IsMeetWritten, interleaving_written, full_written, synchronising_written, IsBehaviourWritten, stop_written, exit_written, action_written, inner_written, guard_written, choice_written, parallel_written, hide_written, enable_written, disable_written, let_written, value_choice_written, gate_choice_written, par_written, call_written}
 use Rattle.flat_sentences.specs.MeaningLaws.{IsCallableOf, AreVisible, WrittenBehavioursAreResolved}
-use Rattle.flat_sentences.proofs.PartsResolved.{and_then_is, all_once, as_long, variables_are, gate_is, gates_are, numbers_same, texts_long, choice_is, par_is, asked_written, offers_are, let_is, exit_values_are, values_are, test_is, predicate_is}
+use Rattle.flat_sentences.proofs.PartsResolved.{all_once, as_long, variables_are, gate_is, gates_are, numbers_same, texts_long, choice_is, par_is, asked_written, offers_are, let_is, exit_values_are, values_are, test_is, predicate_is}
 
 -- ---- Numbers behind a behaviour
 
@@ -38,7 +39,7 @@ follow_long Belong next (x ∷ xs) (y ∷ ys) follow = ap suc (follow_long Belon
 pub past_is : (numbers : Numbers) (w : WrittenBehaviour) (b : Behaviour) → IsMade numbers w b → past w numbers ≡ past_behaviour b numbers
 past_is numbers w b made =
     let counted : variable_count w ≡ length (variables_bound b) =
-    count_is w ∙ follow_long _ numbers.variable (variables_in w) (variables_bound b) made.variables in
+    count_is w ∙ follow_long _ numbers.variable (declared_variables_in w) (variables_bound b) made.variables in
     let gates : length (gates_in w) ≡ length (gates_bound b) =
     follow_long _ numbers.gate (gates_in w) (gates_bound b) made.gates in
     ap (λ (n : ℕ). past_variables n (past_gates (length (gates_in w)) numbers)) counted
@@ -59,14 +60,14 @@ counted_is place gates values callable first second =
     (same_count values (length callable.sorts) second))
 
 values_long : (signature : Signature) (names : List Variable) (ts : List Term) (ws : List WrittenTerm)
-    → AreWrittenAs signature names (terms_of ts) (written_terms ws) → length ws ≡ length ts
+    → AreWrittenAs signature names (argument_list_of ts) (written_terms ws) → length ws ≡ length ts
 values_long signature names [] [] writes = refl
 values_long signature names [] (w ∷ ws) writes = absurd writes
 values_long signature names (t ∷ ts) [] writes = absurd writes
 values_long signature names (t ∷ ts) (w ∷ ws) writes = ap suc (values_long signature names ts ws writes.1)
 
 sorts_long : (signature : Signature) (variables names : List Variable) (ts : List Term) (parameters : List Variable)
-    → TermsMean signature variables names (terms_of ts) (sorts_of parameters)
+    → TermsMean signature variables names (argument_list_of ts) (sorts_of parameters)
     → length ts ≡ length (map (λ (x : Variable). Some x.sort) parameters)
 sorts_long signature variables names [] [] means = refl
 sorts_long signature variables names [] (x ∷ parameters) means = absurd means
@@ -90,12 +91,12 @@ module _ (naming : Naming) (processes : List Process) (callables : List Callable
     (visible : AreVisible naming processes callables) where
   call_is : (scope : PrintedScope) (place : Place) (name : List ℕ) (number : ℕ) (gates : List ℕ) (terms : List Term)
       (given : List PlacedName) (values : List WrittenTerm) → name ≡ called_text naming number → AreGatesWritten naming gates given
-      → AreWrittenAs naming.signature scope.names (terms_of terms) (written_terms values)
+      → AreWrittenAs naming.signature scope.names (argument_list_of terms) (written_terms values)
       → CallMeans naming processes scope number gates terms
       → CallIs naming.signature (scope_with callables scope) place name given values (resolved (call number gates terms))
   call_is scope place name number gates terms given values named listed writes means = (
     callable,
-    and_then_is (found_process place name (callable_named callables name)) callable (counted_call place (length given) (length values))
+    value_then (found_process place name (callable_named callables name)) callable (counted_call place (length given) (length values))
         (resolved callable)
         (sym (ap (λ (o : Option Callable). found_process place name o)
         (ap (λ (key : List ℕ). callable_named callables key) named ∙ seen.1)))
@@ -178,7 +179,7 @@ module _ (naming : Naming) (processes : List Process) (callables : List Callable
             (sym (numbers_same naming (gate_text naming) scope.numbers.gate gates ∙ declared.numbered)),
       )
     where
-      same : each_once (spelled given) ≡ gate_texts naming gates
+      same : each_once (spelled_names given) ≡ gate_texts naming gates
       same = ap (λ (names : List (List ℕ)). each_once names) writes ∙ all_once [] (gate_texts naming gates) declared.distinct
 
   under_gate : (scope : PrintedScope) (gate : ℕ) (name : List ℕ) (b : Behaviour) (inside : WrittenBehaviour)

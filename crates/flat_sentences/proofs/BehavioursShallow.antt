@@ -2,7 +2,7 @@
 use Rattle.std.proofs.Common.{ℕ, ◌+◌, ◌≤◌, Bool, true, false, List, [], ◌∷◌, ◌++◌, flat_map, refl, arith}
 use Rattle.std.specs.Prelude.{Option, None, Some}
 use Rattle.lotos_base.specs.Equation.{Place, Variable}
-use Rattle.lotos_base.specs.Term.{Term, terms_of}
+use Rattle.lotos_base.specs.Term.{Term, argument_list_of}
 use Rattle.lotos_base.specs.WrittenTerm.{WrittenTerm, written_terms}
 use Rattle.syntax_trees.specs.Depth.{TreeNode, node_at, nodes_of_term, nodes_of_terms, nodes_of_maybe_term, nodes_of_premiss, nodes_of_maybe_premiss, nodes_of_offer, nodes_of_exit_value, behaviour_nodes}
 use Rattle.syntax_trees.specs.WrittenVariable.{WrittenVariable}
@@ -75,7 +75,7 @@ module _ (limit : ℕ) (naming : Naming) where
   binding_stands names bound w writes fits = term_stands names bound.1 w.1 writes.1 fits
 
   terms_stand : (names : List Variable) (ts : List Term) (ws : List WrittenTerm)
-      → AreWrittenAs naming.signature names (terms_of ts) (written_terms ws) → Every (TermFits limit) ts
+      → AreWrittenAs naming.signature names (argument_list_of ts) (written_terms ws) → Every (TermFits limit) ts
       → IsShallow limit (nodes_of_terms ws)
   terms_stand names [] [] writes fits = refl
   terms_stand names [] (w ∷ ws) writes fits = absurd writes

@@ -1,6 +1,6 @@
 -- Sorts and operations that are declared as they are written: the same ones, under the name of the type, and without a fault.
 use Rattle.std.proofs.Common.{◌≡◌, ℕ, suc, ◌<◌, ◌≤◌, Bool, true, false, ◌||◌, List, [], ◌∷◌, ◌++◌, map, length, append_assoc, refl, ap, sym, ◌∙◌, subst, arith}
-use Rattle.std.specs.Prelude.{Option, Some, None, slice_get, not, nat_lt, fold}
+use Rattle.std.specs.Prelude.{Some, None, slice_get, not, nat_lt, fold}
 use Rattle.std.specs.List.{list_any}
 use Rattle.std.proofs.lemmas.Bool.{and_parts, and_from, or_parts, not-true, ltb-true, ltb-false, eq-eqb}
 use Rattle.std.proofs.lemmas.List.{append-nil, length-append}
@@ -11,6 +11,7 @@ use Rattle.lotos_base.specs.Equation.{Place, Equation}
 use Rattle.syntax_trees.specs.WrittenItem.{WrittenOperation}
 use Rattle.sort_terms.specs.ReadingOutcome.{one_name, is_sort_name}
 use Rattle.sort_terms.specs.WellFormedTest.{all_differ, are_one_sort, are_one_operation}
+use Rattle.type_flatten.proofs.HandedOn.{none_fails}
 use Rattle.printed_texts.specs.TermText.{sort_text}
 use Rattle.type_definitions.specs.FirstPosition.{first_position}
 use Rattle.type_definitions.specs.TypeFault.{TypeFault, double_sort, double_operation, too_large, unknown_sort, no_reading, fault_if, first_fault, fault_along}
@@ -107,9 +108,6 @@ fewer_operations sorts operations more fine = record {
   few_equations = fine.few_equations;
 }
 
-none_after : (a rest : Option TypeFault) → a ≡ None → rest ≡ None → first_fault a rest ≡ None
-none_after a rest first later = ap (λ (o : Option TypeFault). first_fault o rest) first ∙ later
-
 -- ---- Sorts
 
 module _ (origin : List ℕ) where
@@ -141,7 +139,7 @@ module _ (origin : List ℕ) where
       let rest : List Sort = map (own_sort origin) ss in
       let whole : IsFaultless (presented ((before ++ one_sort w ∷ []) ++ rest) [] []) =
       subst (λ (ts : List Sort). IsFaultless (presented ts [] [])) (sym (sorts_further s w before rest each.0)) fine in
-      none_after (sort_fault origin false (presented before [] []) w)
+      none_fails (sort_fault origin false (presented before [] []) w)
       (fault_along (sort_fault origin false) (with_sort origin false) (presented (before ++ one_sort w ∷ []) [] []) ws)
       (no_fault w.place w.name (presented (before ++ one_sort w ∷ []) [] []) (fewer_sorts (before ++ one_sort w ∷ []) rest [] whole))
       (sorts_faultless ss ws (before ++ one_sort w ∷ []) each.1 whole)
@@ -256,11 +254,11 @@ module _ (origin : List ℕ) where
         → IsFaultless (presented sorts (before ++ one_operation w ∷ []) [])
         → operation_fault origin false (presented sorts before []) w ≡ None
     one_faultless o w before profiled is fine =
-        none_after (fault_if (not (fits_form w.form (length w.arguments))) (no_reading w.place))
+        none_fails (fault_if (not (fits_form w.form (length w.arguments))) (no_reading w.place))
         (first_fault (unknown_sort_among (presented sorts before []) (w.arguments ++ w.result ∷ []))
         (presentation_fault w.place w.name (presented sorts (before ++ one_operation w ∷ []) [])))
         (ap (λ (b : Bool). fault_if (not b) (no_reading w.place)) (fits o w profiled is))
-        (none_after (unknown_sort_among (presented sorts before []) (w.arguments ++ w.result ∷ []))
+        (none_fails (unknown_sort_among (presented sorts before []) (w.arguments ++ w.result ∷ []))
         (presentation_fault w.place w.name (presented sorts (before ++ one_operation w ∷ []) []))
         (none_unknown o.arguments w.arguments o.result w.result before profiled.arguments is.arguments profiled.result is.result)
         (no_fault w.place w.name (presented sorts (before ++ one_operation w ∷ []) []) fine))
@@ -277,7 +275,7 @@ module _ (origin : List ℕ) where
         let whole : IsFaultless (presented sorts ((before ++ one_operation w ∷ []) ++ rest) []) =
         subst (λ (ps : List Operation). IsFaultless (presented sorts ps []))
         (sym (operations_further o w before rest (profiled 0 o refl) each.0)) fine in
-        none_after (operation_fault origin false (presented sorts before []) w)
+        none_fails (operation_fault origin false (presented sorts before []) w)
         (fault_along (operation_fault origin false) (with_operation origin false) (presented sorts (before ++ one_operation w ∷ []) []) ws)
         (one_faultless o w before (profiled 0 o refl) each.0 (fewer_operations sorts (before ++ one_operation w ∷ []) rest whole))
         (operations_faultless os ws (before ++ one_operation w ∷ []) (λ f p at. profiled (suc f) p at) each.1 whole)

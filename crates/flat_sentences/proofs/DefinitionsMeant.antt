@@ -7,7 +7,6 @@ use Rattle.lotos_base.specs.Names.{folded}
 use Rattle.lotos_base.specs.Signature.{Signature}
 use Rattle.lotos_base.specs.Equation.{Variable}
 use Rattle.lotos_base.specs.WrittenTerm.{PlacedName}
-use Rattle.syntax_trees.specs.WrittenVariable.{WrittenVariable}
 use Rattle.syntax_trees.specs.WrittenBehaviour.{WrittenBehaviour}
 use Rattle.syntax_trees.specs.WrittenDefinition.{WrittenHeading, WrittenInner, WrittenInners, inner_item, process, no_inner, inner_then, inners_of, WrittenSpecification}
 use Rattle.behaviour_semantics.specs.Behaviour.{Behaviour, Process, Specification}
@@ -15,18 +14,18 @@ use Rattle.behaviour_semantics.specs.WellFormed.{Every}
 use Rattle.specification_laws.specs.HandedOn.{Naming}
 use Rattle.scope_parts.specs.Resolution.{resolved}
 use Rattle.scope_parts.specs.Scope.{Binding, Callable, bind_all, callable_named, first_double}
-use Rattle.scope_parts.specs.Numbering.{Numbers, spelled, gates_in, own_gates, inner_gates, inners_gates, past_gates, past_variables, past_heading, past_own, past_inner, past_inners, process_count, processes_count}
-use Rattle.scope_parts.specs.Sorts.{found_sort, sort_named, sort_at, sorts_at, functionality_at, variable_at, sorted_variables, variables_at, placed_variables, sorts_if}
+use Rattle.scope_parts.specs.Numbering.{Numbers, spelled_names, gates_in, own_gates, inner_gates, inners_gates, past_gates, past_variables, past_heading, past_own, past_inner, past_inners, process_count, processes_count}
+use Rattle.scope_parts.specs.Sorts.{sort_at, sorts_at, functionality_at, sorted_variables, variables_at, placed_variables, sorts_if}
 use Rattle.scope_parts.specs.Behaviours.{numbers_from, BehaviourIs}
 use Rattle.scope_parts.specs.Definitions.{Heading, formal_gates, heading_at, own_scope, DefinitionIs, callable_of, callables, process_with, past_name, with_name, InnerIs, InnersAre, first_numbers, declared_gates, SpecificationIs}
-use Rattle.scope_parts.proofs.FormedLists.{same_resolved, never_faulty, made_of, front_of, beside_of}
-use Rattle.scope_parts.proofs.FormedDefinitions.{length_spelled, every_both}
+use Rattle.scope_parts.proofs.FormedLists.{same_resolved, made_of, front_of, beside_of}
+use Rattle.scope_parts.proofs.FormedDefinitions.{length_spelled, every_both, same_sorts, length_numbers}
 use Rattle.specification_laws.proofs.HandedOn.{behaviour_made, own_gate, inner_gate}
 use Rattle.flat_sentences.specs.Meanings.{SortMeans, gate_texts, NoneStandsTwice, AreDeclaredVariables, AreDeclaredGates, PrintedScope, past_behaviour, BehaviourMeans}
 use Rattle.flat_sentences.specs.MeaningLaws.{IsCallableOf, LeavesOutTruth, AreCallable, FitsNaming, AreNamesFrom}
 use Rattle.flat_sentences.specs.WrittenSpecifications.{whole_of}
 use Rattle.flat_sentences.proofs.BehavioursResolved.{past_is}
-use Rattle.flat_sentences.proofs.PartsMeant.{no_double_beside, none_twice, sort_meant, variables_meant, declared_counted, known_more, texts_of_row, names_first, names_last, row_again, row_long, fits_more}
+use Rattle.flat_sentences.proofs.PartsMeant.{no_double_beside, none_twice, sort_meant, variables_meant, declared_counted, known_more, texts_of_row, names_first, names_last, row_again, fits_more}
 use Rattle.flat_sentences.proofs.ChoicesMeant.{at}
 use Rattle.flat_sentences.proofs.BehavioursMeant.{behaviour_meant}
 
@@ -77,13 +76,6 @@ behind_joined : (numbers : Numbers) (xs ys : List Process)
 behind_joined numbers [] ys = refl
 behind_joined numbers (p ∷ xs) ys = behind_joined (behind_definition p (past_name numbers)) xs ys
 
-behind_counted : (numbers : Numbers) (xs : List Process) → (behind_processes xs numbers).process ≡ numbers.process + length xs
-behind_counted numbers [] = omega arith
-behind_counted numbers (p ∷ xs) =
-    let rest : (behind_processes xs (behind_definition p (past_name numbers))).process ≡ suc numbers.process + length xs =
-    behind_counted (behind_definition p (past_name numbers)) xs in
-    omega (arith, rest)
-
 -- ---- Headings
 
 sorts_meant : (signature : Signature) (names : List PlacedName) (sorts : List ℕ) → resolved sorts ≡ sorts_at signature names
@@ -102,32 +94,9 @@ functionality_meant signature (Some names) exit is =
     let sorts = made_of (sorts_at signature names) _ exit is in
     subst (FunctionalityMeans signature) (sym (same_resolved exit (Some sorts.0) sorts.2)) (sorts_meant signature names sorts.0 sorts.1)
 
--- the sorts that callers see
-sort_seen : (signature : Signature) (w : WrittenVariable) (sort : ℕ) → resolved sort ≡ sort_at signature w.sort_place w.sort
-    → sort_named signature w.sort ≡ Some sort
-sort_seen signature w sort is = go (sort_named signature w.sort) is
-  where
-    go : (o : Option ℕ) → resolved sort ≡ found_sort w.sort_place w.sort o → o ≡ Some sort
-    go None is = never_faulty sort _ is
-    go (Some n) is = ap Some (sym (same_resolved sort n is))
-
-sorts_seen : (signature : Signature) (next : ℕ) (ws : List WrittenVariable) (xs : List Variable)
-    → resolved xs ≡ sorted_variables signature next ws → sorts_if signature ws ≡ map (λ (x : Variable). Some x.sort) xs
-sorts_seen signature next [] xs is =
-    ap (λ (ys : List Variable). map (λ (x : Variable). Some x.sort) ys) (sym (same_resolved xs [] is))
-sorts_seen signature next (w ∷ ws) xs is =
-    let first = made_of (variable_at signature next w) _ xs is in
-    let rest = front_of first.0 (sorted_variables signature (suc next) ws) xs first.2 in
-    let sort = made_of (sort_at signature w.sort_place w.sort) _ first.0 first.1 in
-    let same = same_resolved first.0 (record { name = w.name; number = next; sort = sort.0 }) sort.2 in
-    ap (λ (o : Option ℕ). o ∷ sorts_if signature ws)
-    (sort_seen signature w sort.0 sort.1 ∙ ap (λ (x : Variable). Some x.sort) (sym same))
-    ∙ ap (λ (os : List (Option ℕ)). Some first.0.sort ∷ os) (sorts_seen signature (suc next) ws rest.0 rest.1)
-    ∙ ap (λ (ys : List Variable). map (λ (x : Variable). Some x.sort) ys) (sym rest.2)
-
 record IsHeadingMeant (signature : Signature) (numbers : Numbers) (heading : WrittenHeading) (h : Heading) : Type 0 where
   gates : h.gates ≡ numbers_from numbers.gate heading.gates
-  distinct : NoneStandsTwice [] (spelled heading.gates)
+  distinct : NoneStandsTwice [] (spelled_names heading.gates)
   parameters : AreDeclaredVariables signature numbers.variable h.parameters
   counted : length h.parameters ≡ length heading.parameters
   sorts : sorts_if signature heading.parameters ≡ map (λ (x : Variable). Some x.sort) h.parameters
@@ -148,12 +117,12 @@ heading_meant signature numbers heading h is =
       parameters = variables_meant signature numbers.variable heading.parameters parameters.0 parameters.1;
       counted = declared_counted signature numbers.variable heading.parameters parameters.0 parameters.1;
       sorts =
-          sorts_seen signature numbers.variable heading.parameters parameters.0
+          same_sorts signature numbers.variable heading.parameters parameters.0
           (beside_of (first_double placed) (sorted_variables signature numbers.variable heading.parameters) parameters.0 parameters.1);
       functionality = functionality_meant signature heading.functionality exit.0 exit.1;
     })
 
-pub row_spelled : (next : ℕ) (names : List PlacedName) → numbers_from next (spelled names) ≡ numbers_from next names
+pub row_spelled : (next : ℕ) (names : List PlacedName) → numbers_from next (spelled_names names) ≡ numbers_from next names
 row_spelled next [] = refl
 row_spelled next (name ∷ names) = ap (λ (ns : List ℕ). next ∷ ns) (row_spelled (next + 1) names)
 
@@ -191,7 +160,7 @@ module _ (naming : Naming) (all : List Process) (leaves : LeavesOutTruth naming)
       next = numbers.gate
 
       names : List (List ℕ)
-      names = spelled heading.gates
+      names = spelled_names heading.gates
 
       first : AreNamesFrom naming next names
       first = names_first naming names (gates_in body) next named
@@ -202,7 +171,7 @@ module _ (naming : Naming) (all : List Process) (leaves : LeavesOutTruth naming)
           ∙ texts_of_row naming names next first
 
       many : length heading.gates ≡ length h.gates
-      many = sym (ap (λ (gs : List ℕ). length gs) meant.gates ∙ row_long next heading.gates)
+      many = sym (ap (λ (gs : List ℕ). length gs) meant.gates ∙ length_numbers next heading.gates)
 
       numbers_same : past_heading heading numbers ≡ past_variables (length h.parameters) (past_gates (length h.gates) numbers)
       numbers_same =
@@ -258,7 +227,7 @@ callable_meant signature visible numbers number heading body d is =
     subst (λ (e : Heading × Behaviour). IsCallableOf number (process_with heading e) (callable_of signature number heading)) (sym is.2.2)
     (record {
       numbered = refl;
-      gates = sym (ap (λ (gs : List ℕ). length gs) meant.gates ∙ row_long numbers.gate heading.gates);
+      gates = sym (ap (λ (gs : List ℕ). length gs) meant.gates ∙ length_numbers numbers.gate heading.gates);
       sorts = meant.sorts;
     })
 

@@ -17,7 +17,7 @@ use Rattle.syntax_trees.specs.WrittenEquation.{WrittenEquation, WrittenGroup, Wr
 use Rattle.syntax_trees.specs.WrittenItem.{WrittenSections, WrittenTypeBody, WrittenItem}
 use Rattle.syntax_trees.specs.WrittenDefinition.{WrittenSpecification}
 use Rattle.scope_parts.specs.ScopeFault.{stands_before}
-use Rattle.scope_parts.specs.Order.{IsOneOf, Rising}
+use Rattle.scope_parts.specs.Order.{IsOneOfPlaces, Rising}
 use Rattle.specification_laws.proofs.HandedOn.{Rises, Within, rises_front, rises_back, nothing_within, here_within, in_left, in_right}
 use Rattle.specification_laws.proofs.HandedOn.{in_rest, both_within, before_parts, nothing_after, rising_both, tokens_rise}
 use Rattle.flat_sentences.specs.WrittenData.{own_equations, equations_of_items, StandApart}
@@ -155,7 +155,7 @@ module _ {text : List ℕ} where
 
 -- ---- Equations at places that rise
 
-among : (es : List WrittenEquation) (i : ℕ) (e : WrittenEquation) → slice_get es i ≡ Some e → IsOneOf e.place (places es)
+among : (es : List WrittenEquation) (i : ℕ) (e : WrittenEquation) → slice_get es i ≡ Some e → IsOneOfPlaces e.place (places es)
 among [] i e at = absurd (none-some e at)
 among (f ∷ es) zero e at = inl (ap (λ (w : WrittenEquation). w.place) (sym (same_Some f e at)))
 among (f ∷ es) (suc i) e at = inr (among es i e at)
@@ -181,7 +181,7 @@ never_itself p is = by_text (or_cases (nat_lt p.text p.text) (nat_eq p.text p.te
         (second_so (nat_eq p.text p.text) (nat_lt p.line p.line || (nat_eq p.line p.line && nat_lt p.column p.column)) both))
 
 before_later : (p : Place) (e : WrittenEquation) (es : List WrittenEquation) (i : ℕ) → slice_get es i ≡ Some e → p ≡ e.place
-    → ((r : Place) → IsOneOf r (places es) → stands_before p r ≡ true) → ⊥
+    → ((r : Place) → IsOneOfPlaces r (places es) → stands_before p r ≡ true) → ⊥
 before_later p e es i at same before =
     never_itself p (subst (λ (r : Place). stands_before p r ≡ true) (sym same) (before e.place (among es i e at)))
 
@@ -201,10 +201,6 @@ pub specification_apart : (text : List ℕ) (tokens : List Token) (tree : Writte
     → Rises tokens → StandApart (equations_of_items tree.items)
 specification_apart text tokens tree is rises =
     rising_apart (equations_of_items tree.items) ((specification_follows is).rise rises)
-
-pub items_apart : (text : List ℕ) (tokens : List Token) (items : List WrittenItem) → AreItems text tokens items → Rises tokens
-    → StandApart (equations_of_items items)
-items_apart text tokens items is rises = rising_apart (equations_of_items items) ((items_follow is).rise rises)
 
 pub read_equations_stand_apart : ReadEquationsStandApart
 read_equations_stand_apart number text tokens tree cut is = specification_apart text tokens tree is (tokens_rise number text tokens cut)

@@ -2,7 +2,7 @@
 use Rattle.std.proofs.Common.{◌≡◌, ℕ, suc, ◌+◌, ◌*◌, ◌^◌, ◌<◌, List, [], ◌∷◌, ◌++◌, length, refl, ap, sym, ◌∙◌, subst, codes}
 use Rattle.std.specs.Prelude.{None, flat_map}
 use Rattle.lotos_base.specs.Signature.{Signature, IsWellFormedSignature}
-use Rattle.lotos_base.specs.Sorting.{HasSort, Occurs, sort_of}
+use Rattle.lotos_base.specs.Sorting.{HasSort, Occurs, head_sort_of}
 use Rattle.lotos_base.specs.Term.{Term}
 use Rattle.lotos_base.specs.Equation.{Variable, Equation, IsEquationOver}
 use Rattle.lotos_lexer.specs.declared.tokens.Token.{Token}
@@ -20,7 +20,7 @@ use Rattle.flat_sentences.specs.WrittenBehaviours.{Correspond, IsVariableWritten
 use Rattle.flat_text.specs.DataText.{sort_if_any}
 use Rattle.flat_text.specs.EquationNames.{renamed_variables}
 use Rattle.flat_sentences.specs.PrintedWords.{Word, a_word, name_word, declarations_words, term_words}
-use Rattle.flat_sentences.specs.WordLaws.{HasBinaryInfixes, IsSentence}
+use Rattle.flat_sentences.specs.WordLaws.{HasBinaryInfixes, IsFittingSentence}
 use Rattle.flat_sentences.specs.TypeWords.{data_naming, for_all_words, sides_of_words, equation_line_words, equations_words}
 use Rattle.flat_sentences.specs.WrittenData.{IsEquationWritten, IsGroupWritten}
 use Rattle.flat_sentences.specs.DataLaws.{IsNumberedEquation}
@@ -36,13 +36,13 @@ module _ (text : List ℕ) (signature : Signature) (well : IsWellFormedSignature
   for_all_says : (xs : List Variable)
       → Says text (for_all_words signature xs) (AreForAll text) (Correspond (IsVariableWritten signature) xs)
   for_all_says [] tokens are =
-      subst (IsSentence (AreForAll text) (Correspond (IsVariableWritten signature) [])) (sym (no_words text tokens are))
+      subst (IsFittingSentence (AreForAll text) (Correspond (IsVariableWritten signature) [])) (sym (no_words text tokens are))
       (record { thing = []; is_one = left_out; fitting = tt })
   for_all_says (x ∷ xs) tokens are =
       let word : Word = a_word FORALL (codes "forall") in
       let begin = first_of text tokens word (declarations_words (data_naming signature) (x ∷ xs)) are in
       let inside = variables_say text (data_naming signature) well binary x xs begin.rest begin.are_words in
-      subst (IsSentence (AreForAll text) (Correspond (IsVariableWritten signature) (x ∷ xs))) (sym begin.joined) (record {
+      subst (IsFittingSentence (AreForAll text) (Correspond (IsVariableWritten signature) (x ∷ xs))) (sym begin.joined) (record {
         thing = inside.thing;
         is_one = there (behind (of_kind text word begin.first begin.is_word) inside.is_one);
         fitting = inside.fitting;
@@ -73,7 +73,7 @@ module _ (text : List ℕ) (signature : Signature) (well : IsWellFormedSignature
         side_says e.right over.right_sort
         (λ n s occurs. declared_means signature e few numbered.declared n s (over.right_declared n s occurs)) sign.rest sign.are_words in
         let begin = term_begins text parts.left left.thing left.is_one in
-        subst (IsSentence (IsWrittenEquation text) (IsEquationWritten signature xs e))
+        subst (IsFittingSentence (IsWrittenEquation text) (IsEquationWritten signature xs e))
         (sym (parts.joined ∙ ap (λ (ts : List Token). parts.left ++ ts) sign.joined
         ∙ ap (λ (ts : List Token). ts ++ sign.first ∷ sign.rest) begin.joined)) (record {
           thing = record {
@@ -92,7 +92,7 @@ module _ (text : List ℕ) (signature : Signature) (well : IsWellFormedSignature
     group_says : Says text (equation_line_words signature e) (IsEquationGroup text) (IsGroupWritten signature e)
     group_says tokens are =
         let word : Word = a_word OFSORT (codes "ofsort") in
-        let sort_ : Word = name_word (sort_if_any signature (sort_of signature e.left)) in
+        let sort_ : Word = name_word (sort_if_any signature (head_sort_of signature e.left)) in
         let end_ : Word = a_word SEMICOLON (codes ";") in
         let variables_ : List Word = for_all_words signature xs in
         let sides_ : List Word = sides_of_words signature xs e in
@@ -103,7 +103,7 @@ module _ (text : List ℕ) (signature : Signature) (well : IsWellFormedSignature
         let end = one_of text rest.right end_ rest.right_are in
         let variables = for_all_says xs parts.left parts.left_are in
         let one = sides_say rest.left rest.left_are in
-        subst (IsSentence (IsEquationGroup text) (IsGroupWritten signature e))
+        subst (IsFittingSentence (IsEquationGroup text) (IsGroupWritten signature e))
         (sym (begin.joined ∙ ap (λ (ts : List Token). begin.first ∷ ts)
         (sort.joined ∙ ap (λ (ts : List Token). sort.first ∷ ts)
         (parts.joined ∙ ap (λ (ts : List Token). parts.left ++ ts)
@@ -138,14 +138,14 @@ module _ (text : List ℕ) (signature : Signature) (well : IsWellFormedSignature
       → Says text (flat_map (equation_line_words signature) es) (Many (IsEquationGroup text))
       (Correspond (IsGroupWritten signature) es)
   groups_say [] all tokens are =
-      subst (IsSentence (Many (IsEquationGroup text)) (Correspond (IsGroupWritten signature) [])) (sym (no_words text tokens are))
+      subst (IsFittingSentence (Many (IsEquationGroup text)) (Correspond (IsGroupWritten signature) [])) (sym (no_words text tokens are))
       (record { thing = []; is_one = no_more; fitting = tt })
   groups_say (e ∷ es) all tokens are =
       let parts =
       parts_of text tokens (equation_line_words signature e) (flat_map (equation_line_words signature) es) are in
       let first = group_says e all.0.over all.0.numbered all.0.few parts.left parts.left_are in
       let rest = groups_say es all.1 parts.right parts.right_are in
-      subst (IsSentence (Many (IsEquationGroup text)) (Correspond (IsGroupWritten signature) (e ∷ es))) (sym parts.joined) (record {
+      subst (IsFittingSentence (Many (IsEquationGroup text)) (Correspond (IsGroupWritten signature) (e ∷ es))) (sym parts.joined) (record {
         thing = first.thing ∷ rest.thing;
         is_one = and_then first.is_one rest.is_one;
         fitting = (first.fitting, rest.fitting);
@@ -159,14 +159,14 @@ module _ (text : List ℕ) (signature : Signature) (well : IsWellFormedSignature
   pub equations_say : (es : List Equation) → Every IsFlatEquation es
       → Says text (equations_words signature es) (Optional no_equations (Behind EQNS (AreEquations text))) (AreEquationsWritten es)
   equations_say [] all tokens are =
-      subst (IsSentence (Optional no_equations (Behind EQNS (AreEquations text))) (AreEquationsWritten []))
+      subst (IsFittingSentence (Optional no_equations (Behind EQNS (AreEquations text))) (AreEquationsWritten []))
       (sym (no_words text tokens are))
       (record { thing = no_equations; is_one = left_out; fitting = record { variables = refl; groups = tt } })
   equations_say (e ∷ es) all tokens are =
       let word : Word = a_word EQNS (codes "eqns") in
       let begin = first_of text tokens word (flat_map (equation_line_words signature) (e ∷ es)) are in
       let groups = groups_say (e ∷ es) all begin.rest begin.are_words in
-      subst (IsSentence (Optional no_equations (Behind EQNS (AreEquations text))) (AreEquationsWritten (e ∷ es))) (sym begin.joined)
+      subst (IsFittingSentence (Optional no_equations (Behind EQNS (AreEquations text))) (AreEquationsWritten (e ∷ es))) (sym begin.joined)
       (record {
         thing = record { variables = []; groups = groups.thing };
         is_one = there (behind (of_kind text word begin.first begin.is_word) (equations left_out groups.is_one));

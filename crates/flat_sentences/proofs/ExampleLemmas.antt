@@ -12,7 +12,7 @@ use Rattle.lotos_base.specs.Term.{variable}
 use Rattle.lotos_base.specs.Twins.{HasTwin, has_twin}
 use Rattle.sort_terms.proofs.WellFormedLemmas.{well_formed_test}
 use Rattle.specification_laws.specs.WrittenAs.{no_mark}
-use Rattle.flat_text.specs.FlatCases.{operation_called, constant, applied, x_of, equation_of_sides}
+use Rattle.flat_text.specs.FlatCases.{operation_called, applied_to_none, applied_to_one, x_of, equation_by_sides}
 use Rattle.flat_sentences.specs.WrittenData.{AreSectionsWritten, StandApart}
 use Rattle.flat_sentences.specs.DataLaws.{IsNumberedEquation, AreDataOfText}
 use Rattle.flat_sentences.specs.WrittenExample.{constant_data, constant_equation, constant_sections, ConstantDataAreWritten}
@@ -24,7 +24,7 @@ abbrev f : Operation
 f = operation_called (codes "f") prefix_form (0 ∷ []) 0
 
 abbrev e : Equation
-e = equation_of_sides (x_of 0 ∷ []) (applied 1 (variable 0 0)) (constant 0)
+e = equation_by_sides (x_of 0 ∷ []) (applied_to_one 1 (variable 0 0)) (applied_to_none 0)
 
 no_twin : (o : Operation) → has_twin constant_data.signature o ≡ false → ¬ HasTwin constant_data.signature o
 no_twin o none twin =

@@ -8,11 +8,11 @@ use Rattle.lotos_lexer.specs.Bytes.{first_is}
 use Rattle.lotos_lexer.specs.Lexemes.{lexeme_of}
 use Rattle.lotos_lexer.specs.Pieces.{piece_at}
 use Rattle.lotos_lexer.specs.Tokens.{list_open_behind}
-use Rattle.printed_texts.specs.Brackets.{begins_with, spaced, round}
+use Rattle.printed_texts.specs.Brackets.{begins_with_sign, spaced, round}
 use Rattle.specification_laws.specs.TextNames.{IsWordSpelling, IsDigitSpelling, IsSignSpelling, IsOperationSpelling}
 use Rattle.specification_laws.proofs.NameTokens.{IsApart, word_piece, digit_piece, sign_piece, digit_no_letter, sign_no_letter, sign_no_digit}
 use Rattle.specification_laws.proofs.PartsOfText.{apart, opened_piece, opened_other}
-use Rattle.flat_sentences.specs.PrintedWords.{Word, a_word, name_word, operation_kind, operation_word, round_words}
+use Rattle.flat_sentences.specs.PrintedWords.{Word, a_word, name_word, operation_name_kind, operation_word, round_words}
 use Rattle.flat_sentences.specs.TextPieces as pieced
 use Rattle.flat_sentences.specs.CutTexts.{AreCut}
 
@@ -91,17 +91,17 @@ name_extends name is rest more apart_rest cut =
     word_cut false (name_word name) rest more (some_bytes is_ascii_alphabetic name is.begins) (word_piece name rest is apart_rest) cut
 
 -- what kind the name of an operation has
-kind_of_word : (name : List ℕ) → IsWordSpelling name → operation_kind name ≡ NAME
+kind_of_word : (name : List ℕ) → IsWordSpelling name → operation_name_kind name ≡ NAME
 kind_of_word name is =
     ap (λ (b : Bool). if b then NAME else if first_is is_ascii_digit name then DIGIT_NAME else SIGN_NAME) is.begins
 
-kind_of_digits : (name : List ℕ) → IsDigitSpelling name → operation_kind name ≡ DIGIT_NAME
+kind_of_digits : (name : List ℕ) → IsDigitSpelling name → operation_name_kind name ≡ DIGIT_NAME
 kind_of_digits [] is = let never : false ≡ true = is.begins in cc
 kind_of_digits (b ∷ bs) is =
     ap (λ (t : Bool). if t then NAME else if is_ascii_digit b then DIGIT_NAME else SIGN_NAME) (digit_no_letter b is.begins)
     ∙ ap (λ (t : Bool). if t then DIGIT_NAME else SIGN_NAME) is.begins
 
-kind_of_signs : (name : List ℕ) → IsSignSpelling name → operation_kind name ≡ SIGN_NAME
+kind_of_signs : (name : List ℕ) → IsSignSpelling name → operation_name_kind name ≡ SIGN_NAME
 kind_of_signs [] is = let never : false ≡ true = is.begins in cc
 kind_of_signs (b ∷ bs) is =
     ap (λ (t : Bool). if t then NAME else if is_ascii_digit b then DIGIT_NAME else SIGN_NAME) (sign_no_letter b is.begins)
@@ -130,8 +130,8 @@ round_extends bytes words inside rest more apart_rest cut =
     (a_word LEFT_PARENTHESIS (codes "(") ∷ (words ++ (a_word RIGHT_PARENTHESIS (codes ")") ∷ more))))
     (sym (ap (λ (bs : List ℕ). bs) (append_assoc (codes "(" ++ spaced 42 bytes) (codes ")") rest)))
     (word_cut false (a_word LEFT_PARENTHESIS (codes "(")) (spaced 42 bytes ++ (41 ∷ rest)) _ (omega arith)
-    (opened_piece (spaced 42 bytes ++ (41 ∷ rest)) (opened_other bytes rest (begins_with 42 bytes) refl))
-    (by (begins_with 42 bytes))))
+    (opened_piece (spaced 42 bytes ++ (41 ∷ rest)) (opened_other bytes rest (begins_with_sign 42 bytes) refl))
+    (by (begins_with_sign 42 bytes))))
   where
     closed : AreCut false (41 ∷ rest) (a_word RIGHT_PARENTHESIS (codes ")") ∷ more)
     closed = word_cut false (a_word RIGHT_PARENTHESIS (codes ")")) rest more (omega arith) refl cut

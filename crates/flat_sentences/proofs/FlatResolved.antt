@@ -19,17 +19,18 @@ use Rattle.specification_laws.specs.HandedOn.{HasGateNumber}
 use Rattle.scope_parts.specs.ScopeFault.{double_name}
 use Rattle.scope_parts.specs.Resolution.{resolved, faulty, put_in_front}
 use Rattle.scope_parts.specs.Scope.{Binding, Callable, bound_to, bind, bind_all, is_bound, callable_named, first_double}
-use Rattle.scope_parts.specs.Numbering.{Numbers, spelled, each_once, gates_in, own_gates, inners_gates, past_gates, past_variables, past_heading, past_own, process_count}
+use Rattle.scope_parts.specs.Numbering.{Numbers, spelled_names, each_once, gates_in, own_gates, inners_gates, past_gates, past_variables, past_heading, past_own, process_count}
 use Rattle.scope_parts.specs.Sorts.{sort_named, sort_at, sorts_at, functionality_at, variables_at, sorts_if}
 use Rattle.scope_parts.specs.Behaviours.{numbers_from, BehaviourIs}
 use Rattle.scope_parts.specs.Definitions.{Heading, formal_gates, heading_at, own_scope, DefinitionIs, callable_of, callables, new_process, process_with, past_name, InnersAre, first_numbers, declared_gates, specification_with, SpecificationIs}
+use Rattle.scope_parts.proofs.AnswerLemmas.{value_then}
 use Rattle.specification_laws.proofs.HandedOn.{behaviour_made, declarations_have_the_next_number}
 use Rattle.flat_sentences.specs.Meanings.{SortMeans, gate_texts, NoneStandsTwice, AreDeclaredGates, PrintedScope, past_behaviour, BehaviourMeans}
 use Rattle.flat_sentences.specs.MeaningLaws.{IsCallableOf, AreVisible, AreNamesFrom}
 use Rattle.flat_sentences.specs.WrittenBehaviours.{Correspond, IsVariableWritten, AreGatesWritten, IsBehaviourWritten, stop_written, exit_written, action_written, inner_written, guard_written, choice_written, parallel_written, hide_written, enable_written, disable_written, let_written, value_choice_written, gate_choice_written, par_written, call_written}
 use Rattle.flat_sentences.specs.WrittenSpecifications.{IsFlatNaming, IsSortWritten, IsFunctionalityWritten, IsDefinitionWritten, AreProcessesWritten, whole_of, called_names, renamed_processes, renamed}
 use Rattle.flat_sentences.specs.FlatLaws.{FlatTextsStandForTheSame}
-use Rattle.flat_sentences.proofs.PartsResolved.{and_then_is, in_front_is, beside_is, no_double, all_once, sort_is, variables_are, as_long, numbers_same}
+use Rattle.flat_sentences.proofs.PartsResolved.{in_front_is, beside_is, no_double, all_once, sort_is, variables_are, as_long, numbers_same}
 use Rattle.flat_sentences.proofs.BehavioursResolved.{past_is, gates_long, resolves}
 use Rattle.flat_sentences.proofs.DefinitionsMeant.{inside_of, FunctionalityMeans, DefinitionMeans, behind_definition, ProcessesMean, row_spelled, SpecificationMeans, specification_meant}
 
@@ -41,7 +42,7 @@ sorts_are signature [] [] means writes = refl
 sorts_are signature [] (name ∷ names) means writes = absurd writes
 sorts_are signature (s ∷ sorts) [] means writes = absurd writes
 sorts_are signature (s ∷ sorts) (name ∷ names) means writes =
-    and_then_is (sort_at signature name.place name.name) s (λ (n : ℕ). put_in_front n (sorts_at signature names))
+    value_then (sort_at signature name.place name.name) s (λ (n : ℕ). put_in_front n (sorts_at signature names))
     (resolved (s ∷ sorts)) (sort_is signature name.place name.name s means.0 writes.0)
     (in_front_is (sorts_at signature names) s sorts (sorts_are signature sorts names means.1 writes.1))
 
@@ -51,7 +52,7 @@ functionality_is signature None None means writes = refl
 functionality_is signature None (Some names) means writes = absurd writes
 functionality_is signature (Some sorts) None means writes = absurd writes
 functionality_is signature (Some sorts) (Some names) means writes =
-    and_then_is (sorts_at signature names) sorts (λ (ns : List ℕ). resolved (Some ns)) (resolved (Some sorts))
+    value_then (sorts_at signature names) sorts (λ (ns : List ℕ). resolved (Some ns)) (resolved (Some sorts))
     (sorts_are signature sorts names means writes) refl
 
 formal_are : (naming : Naming) (next : ℕ) (gates : List ℕ) (names : List PlacedName) → AreDeclaredGates naming next gates
@@ -69,11 +70,11 @@ heading_is : (naming : Naming) (all : List Process) (numbers : Numbers) (p : Pro
     → DefinitionMeans naming all numbers p → IsDefinitionWritten naming p heading body
     → resolved (heading_of p) ≡ heading_at naming.signature numbers heading
 heading_is naming all numbers p heading body means writes =
-    and_then_is (formal_gates numbers.gate heading.gates) p.gates _ (resolved (heading_of p))
+    value_then (formal_gates numbers.gate heading.gates) p.gates _ (resolved (heading_of p))
     (formal_are naming numbers.gate p.gates heading.gates means.gates writes.gates)
-    (and_then_is (variables_at naming.signature numbers.variable heading.parameters) p.parameters _ (resolved (heading_of p))
+    (value_then (variables_at naming.signature numbers.variable heading.parameters) p.parameters _ (resolved (heading_of p))
     (variables_are naming.signature numbers.variable p.parameters heading.parameters means.parameters writes.parameters)
-    (and_then_is (functionality_at naming.signature heading.functionality) p.exit _ (resolved (heading_of p))
+    (value_then (functionality_at naming.signature heading.functionality) p.exit _ (resolved (heading_of p))
     (functionality_is naming.signature p.exit heading.functionality means.functionality writes.functionality) refl))
 
 -- ---- Definitions
@@ -324,7 +325,7 @@ module _ (naming : Naming) where
       → DefinitionMeans naming all numbers p → IsDefinitionWritten naming p heading body
       → own_gates heading body ≡ gate_texts naming (p.gates ++ gates_bound p.body)
   definition_gates all numbers p heading body means writes =
-      texts_joined p.gates (gates_bound p.body) (spelled heading.gates) (gates_in body) writes.gates
+      texts_joined p.gates (gates_bound p.body) (spelled_names heading.gates) (gates_in body) writes.gates
       (behaviour_gates all p.parameters p.body body writes.body_written (inside_of naming numbers p) means.body)
 
   processes_gates : (all : List Process) (numbers : Numbers) (next : ℕ) (ps : List Process) (ws : WrittenInners)

@@ -15,7 +15,7 @@ use Rattle.behaviour_semantics.specs.Behaviour.{Behaviour, stop, Test, Offer, Sy
 use Rattle.behaviour_semantics.specs.WellFormed.{Every}
 use Rattle.scope_parts.specs.Resolution.{Resolution, resolved}
 use Rattle.scope_parts.specs.Scope.{Binding, Callable, Scope, bind, gate_at, gates_at, first_double}
-use Rattle.scope_parts.specs.Numbering.{Numbers, spelled, each_once, asked_for}
+use Rattle.scope_parts.specs.Numbering.{Numbers, spelled_names, each_once, asked_for}
 use Rattle.scope_parts.specs.Sorts.{placed_variables}
 use Rattle.scope_parts.specs.Terms.{TestOptionIs, OffersFollow, OffersAre, BindingsAre, LetIs, let_names}
 use Rattle.scope_parts.specs.Choices.{GateChoice, choices_follow, choices_at, signs_follow, with_signs, placed_choices, under_gates, under_par, under_values}
@@ -37,7 +37,7 @@ gates_some bindings (w ∷ ws) ns is some =
     let rest = front_of first.0 (gates_at bindings ws) ns first.2 in
     subst (λ (ms : List ℕ). ms ≢ []) (sym rest.2) (has_member first.0 rest.0)
 
-hidden_some : (next : ℕ) (gates : List PlacedName) → gates ≢ [] → numbers_from next (each_once (spelled gates)) ≢ []
+hidden_some : (next : ℕ) (gates : List PlacedName) → gates ≢ [] → numbers_from next (each_once (spelled_names gates)) ≢ []
 hidden_some next [] some = absurd (some refl)
 hidden_some next (gate ∷ gates) some = has_member next _
 

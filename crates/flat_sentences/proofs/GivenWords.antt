@@ -1,12 +1,13 @@
 -- The names that processes are given have the form of names.
-use Rattle.std.proofs.Common.{◌≡◌, ℕ, zero, suc, ◌+◌, ◌<◌, ◌%◌, ◌/◌, Bool, true, false, ◌||◌, ◌&&◌, not, List, [], ◌∷◌, ◌++◌, length, Some, None, refl, ap, sym, ◌∙◌, subst, arith, append_assoc, codes, decimal, nat_lt, nat_le, lt-ltb, mod-lt}
+use Rattle.std.proofs.Common.{◌≡◌, ℕ, zero, suc, ◌+◌, ◌<◌, ◌%◌, ◌/◌, Bool, true, false, ◌||◌, not, List, [], ◌∷◌, ◌++◌, length, Some, None, refl, ap, sym, ◌∙◌, subst, arith, append_assoc, codes, decimal, nat_lt, nat_le, lt-ltb, mod-lt}
 use Rattle.std.specs.Prelude.{◌==◌, if◌then◌else◌}
 use Rattle.std.specs.Fmt.{digits, digits_onto, digit_glyph}
 use Rattle.std.specs.List.{list_any, list_all}
 use Rattle.std.specs.Char.{is_ascii_alphabetic, is_ascii_digit, is_ascii_alphanumeric, to_ascii_lowercase}
-use Rattle.std.proofs.lemmas.Bool.{and_parts, le-leb, not-true}
+use Rattle.std.proofs.lemmas.Bool.{and_parts, le-leb, not-true, and_from}
 use Rattle.std.proofs.lemmas.Slice.Eq.{bytes_eq-Decides}
 use Rattle.std.specs.Str.{bytes_eq}
+use Rattle.std.proofs.Math.Bool.{or-true}
 use Rattle.lotos_base.proofs.Bytes.{digit_or_letter}
 use Rattle.lotos_base.specs.Name.{folded}
 use Rattle.lotos_lexer.specs.Lexemes.{underscore_before, word_length, word_kind_in}
@@ -14,7 +15,7 @@ use Rattle.lotos_lexer.specs.Spellings.{Spelling, reserved_words}
 use Rattle.behaviour_semantics.specs.WellFormed.{Every}
 use Rattle.specification_laws.specs.TextNames.{IsWordSpelling}
 use Rattle.flat_text.specs.FreeNames.{has_name, with_number, least_free}
-use Rattle.flat_text.specs.GivenNames.{numbered, given_name, given_behind}
+use Rattle.flat_text.specs.GivenNames.{numbered_name, given_name, given_behind}
 use Rattle.flat_sentences.specs.FlatTextLaws.{GivenNamesAreWords}
 use Rattle.flat_sentences.proofs.Joining.{first_joined}
 
@@ -30,16 +31,12 @@ pub record HasDigits (bytes : List ℕ) : Type 0 where
   pub are : bytes ≡ first ∷ others
   pub digits_are : AreDigits bytes
 
-both_true : (one other : Bool) → one ≡ true → other ≡ true → (one && other) ≡ true
-both_true true other first second = second
-both_true false other first second = cc
-
 glyph_digit : (d : ℕ) → d < 10 → is_ascii_digit (digit_glyph false d) ≡ true
 glyph_digit d small = by (nat_lt d 10) (lt-ltb d 10 small)
   where
     by : (b : Bool) → b ≡ true → is_ascii_digit (if b then 48 + d else 87 + d) ≡ true
     by true is =
-        both_true (nat_le 48 (48 + d)) (nat_le (48 + d) 57) (le-leb 48 (48 + d) (omega arith))
+        and_from (nat_le 48 (48 + d)) (nat_le (48 + d) 57) (le-leb 48 (48 + d) (omega arith))
         (le-leb (48 + d) 57 (omega (arith, small)))
     by false is = absurd (cc is)
 
@@ -121,14 +118,10 @@ word_longer (c ∷ name) b more whole later =
 abbrev is_line : ℕ → Bool
 is_line b = b == 95
 
-or_found : (one : Bool) → (one || true) ≡ true
-or_found true = refl
-or_found false = refl
-
 line_inside : (name more : List ℕ) → list_any is_line (folded (name ++ 95 ∷ more)) ≡ true
 line_inside [] more = refl
 line_inside (b ∷ name) more =
-    ap (λ (rest : Bool). is_line (to_ascii_lowercase b) || rest) (line_inside name more) ∙ or_found (is_line (to_ascii_lowercase b))
+    ap (λ (rest : Bool). is_line (to_ascii_lowercase b) || rest) (line_inside name more) ∙ or-true (is_line (to_ascii_lowercase b))
 
 none_reserved : (rows : List Spelling) (name : List ℕ)
     → list_all (λ (row : Spelling). not (list_any is_line (folded row.0))) rows ≡ true → list_any is_line (folded name) ≡ true
@@ -160,7 +153,7 @@ numbered_word name n is = subst IsWordSpelling (sym (append_assoc name (codes "_
 given_word : (earlier taken : List (List ℕ)) (name : List ℕ) → IsWordSpelling name → IsWordSpelling (given_name earlier taken name)
 given_word earlier taken name is = by (has_name earlier name)
   where
-    by : (there : Bool) → IsWordSpelling (if there then numbered taken name else name)
+    by : (there : Bool) → IsWordSpelling (if there then numbered_name taken name else name)
     by true = numbered_word name (least_free taken (name ++ codes "_") 2) is
     by false = is
 

@@ -10,9 +10,9 @@ use Rattle.lotos_lexer.specs.declared.pieces.Piece.TheVariants as piece
 use Rattle.lotos_lexer.specs.Bytes.{first_is, is_blank}
 use Rattle.lotos_lexer.specs.Bytes as lexer
 use Rattle.lotos_lexer.specs.Spellings.{reserved_words}
-use Rattle.lotos_lexer.specs.Lexemes.{lexeme_of, lexeme_at, word_length, word_kind_in, digit_name, operator, closing, run, single_sign}
+use Rattle.lotos_lexer.specs.Lexemes.{lexeme_of, lexeme_at, word_length, word_kind_in, digit_name, operator, closing, run_of_signs, single_sign}
 use Rattle.lotos_lexer.specs.Pieces.{close_at, comment, token, piece_at}
-use Rattle.printed_texts.specs.Brackets.{begins_with, spaced, square}
+use Rattle.printed_texts.specs.Brackets.{begins_with_sign, spaced, square}
 use Rattle.specification_laws.specs.TextNames.{IsWordSpelling}
 use Rattle.specification_laws.proofs.NameTokens.{IsApart, word_piece}
 use Rattle.specification_laws.proofs.PartsOfText.{apart}
@@ -33,9 +33,6 @@ four_assoc a b c d = append_assoc (a ++ b) c d ∙ append_assoc a b (c ++ d)
 pub five_assoc : {A : Type 0} (a b c d e : List A) → (((a ++ b) ++ c) ++ d) ++ e ≡ a ++ (b ++ (c ++ (d ++ e)))
 five_assoc a b c d e = append_assoc ((a ++ b) ++ c) d e ∙ four_assoc a b c (d ++ e)
 
-pub six_assoc : {A : Type 0} (a b c d e f : List A) → ((((a ++ b) ++ c) ++ d) ++ e) ++ f ≡ a ++ (b ++ (c ++ (d ++ (e ++ f))))
-six_assoc a b c d e f = append_assoc (((a ++ b) ++ c) ++ d) e f ∙ five_assoc a b c d (e ++ f)
-
 -- ---- A name, whether or not a list of gates is open
 
 word_first : (open_list : Bool) (bytes : List ℕ) → first_is is_ascii_alphabetic bytes ≡ true
@@ -46,7 +43,7 @@ word_first open_list bytes begins =
     (if t then Some (lexeme_of (unwrap_or (word_kind_in reserved_words (take (word_length bytes) bytes)) NAME) (word_length bytes))
     else None)
     (option_or (digit_name bytes) (option_or (operator bytes) (option_or (closing open_list bytes)
-    (option_or (run bytes) (single_sign bytes))))))
+    (option_or (run_of_signs bytes) (single_sign bytes))))))
     begins
 
 same_piece : (open_list : Bool) (bytes : List ℕ) → first_is is_ascii_alphabetic bytes ≡ true
@@ -98,7 +95,7 @@ turned b other = by (nat_eq 62 b) refl
     by true same = ap (λ (n : ℕ). nat_eq n 62) ((Decides-eqb 62 b).0 same) ∙ other
     by false same = refl
 
-bracket_there : (bytes more : List ℕ) (arrow : Bool) → begins_with 62 bytes ≡ arrow → OpensList bytes
+bracket_there : (bytes more : List ℕ) (arrow : Bool) → begins_with_sign 62 bytes ≡ arrow → OpensList bytes
     → piece_at false (91 ∷ ((if arrow then codes " " ++ bytes else bytes) ++ more)) ≡ piece.Token (lexeme_of LEFT_BRACKET 1)
 bracket_there bytes more true is opens = bracket_piece 32 (bytes ++ more) refl refl
 bracket_there [] more false is opens = let never : false ≡ true = opens in cc
@@ -114,8 +111,8 @@ square_extends bytes words opens inside rest more apart_rest cut =
     (a_word LEFT_BRACKET (codes "[") ∷ (words ++ (a_word RIGHT_BRACKET (codes "]") ∷ more))))
     (sym (ap (λ (bs : List ℕ). bs) (append_assoc (codes "[" ++ spaced 62 bytes) (codes "]") rest)))
     (word_cut false (a_word LEFT_BRACKET (codes "[")) (spaced 62 bytes ++ (93 ∷ rest)) _ (omega arith)
-    (bracket_there bytes (93 ∷ rest) (begins_with 62 bytes) refl opens)
-    (by (begins_with 62 bytes))))
+    (bracket_there bytes (93 ∷ rest) (begins_with_sign 62 bytes) refl opens)
+    (by (begins_with_sign 62 bytes))))
   where
     closed : AreCut false (93 ∷ rest) (a_word RIGHT_BRACKET (codes "]") ∷ more)
     closed = word_cut false (a_word RIGHT_BRACKET (codes "]")) rest more (omega arith) refl cut

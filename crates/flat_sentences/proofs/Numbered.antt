@@ -134,10 +134,10 @@ module _ (equations_number_by_appearance : EquationsNumberByAppearance) where
     where
       there : (n : ℕ) → is_among (appearing left right) n ≡ true → (v : Variable) × (slice_get (scope_of p asked) n ≡ Some v)
       there n h =
-          elim (adds_nothing [] (declared.variable_numbers left ++ declared.variable_numbers right) n h) [
+          elim (adds_nothing [] (declared.numbers_in_term left ++ declared.numbers_in_term right) n h) [
             | inl none ↦ among_none n none
             | inr appears ↦
-                elim (among_cases (declared.variable_numbers left) (declared.variable_numbers right) n appears) [
+                elim (among_cases (declared.numbers_in_term left) (declared.numbers_in_term right) n appears) [
                   | inl in_left ↦
                       let at = occurs_numbered left n in_left in
                       let v = in_scope p.signature (scope_of p asked) (scopes_numbered p asked.variables) asked.equation.left left

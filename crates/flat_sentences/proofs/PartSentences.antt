@@ -3,7 +3,7 @@ use Rattle.std.proofs.Common.{◌≡◌, ℕ, Bool, true, false, List, [], ◌�
 use Rattle.std.specs.Prelude.{None, Some, flat_map, Option}
 use Rattle.lotos_base.specs.Signature.{IsWellFormedSignature}
 use Rattle.lotos_base.specs.Equation.{Variable}
-use Rattle.lotos_base.specs.Term.{Term, terms_of}
+use Rattle.lotos_base.specs.Term.{Term, argument_list_of}
 use Rattle.lotos_base.specs.WrittenTerm.{PlacedName, WrittenTerm, written_terms}
 use Rattle.lotos_lexer.specs.declared.tokens.Token.{Token}
 use Rattle.lotos_lexer.specs.declared.kinds.TheConstants.{IN, ANY, ACCEPT, COMMA, COLON, EQUALS, EXCLAMATION, QUESTION, LEFT_BRACKET, RIGHT_BRACKET, INTERLEAVING, FULL_SYNCHRONISATION, GATES_OPEN, GATES_CLOSE, ENABLING, LEFT_PARENTHESIS, RIGHT_PARENTHESIS}
@@ -16,7 +16,7 @@ use Rattle.lotos_rows.specs.Names.{place_of, named, a_name, AreNames, AreOptiona
 use Rattle.lotos_rows.specs.Terms.{IsTerm, grouped_factors, AreFactors, one_factor, more_factors, IsFactor, without_sort, with_sort, IsBase, without_arguments, with_arguments, bracketed, AreTerms, AreArguments, no_arguments, some_arguments}
 use Rattle.lotos_rows.specs.Equations.{IsPremiss, true_term, equal_terms}
 use Rattle.lotos_rows.specs.Behaviours.{IsLetDeclaration, let_declaration, among, AreGateChoices, gate_choices, IsWrittenOffer, giving, asking, IsWrittenExitValue, any_value, value_given, IsParallelSign, sign_interleaving, sign_full, sign_gates, IsSign, sign_enabling, selection, IsSelection}
-use Rattle.scope_parts.specs.Numbering.{spelled}
+use Rattle.scope_parts.specs.Numbering.{spelled_names}
 use Rattle.behaviour_semantics.specs.Behaviour.{Test, Offer, give, ask, ExitValue, exit_value, any_of, SynchronisationSet, no_gates, all_gates, at_gates}
 use Rattle.behaviour_semantics.specs.WellFormed.{Every}
 use Rattle.printed_texts.specs.TermText.{sort_text}
@@ -26,7 +26,7 @@ use Rattle.specification_laws.specs.TermMeanings.{TermsMean}
 use Rattle.flat_sentences.specs.Meanings.{PrintedScope, ValueMeans, ExitValueMeans, OfferMeans, TestMeans, PredicateMeans}
 use Rattle.flat_sentences.specs.WrittenBehaviours.{Correspond, IsVariableWritten, AreGatesWritten, IsExitValueWritten, IsOfferWritten, IsRightWritten, IsTestWritten, IsBindingWritten, IsMeetWritten, interleaving_written, full_written, synchronising_written, IsGateChoiceWritten, IsPredicateWritten}
 use Rattle.flat_sentences.specs.PrintedWords.{Word, AreWords, a_word, name_word, square_words, commas_words, term_words, gate_word, gates_words, declared_words, declarations_words, sides_words, test_words, offer_words, offers_words, exit_value_words, meet_words, enable_words, binding_words, gate_choice_words, round_words, phrase_words, words_of_terms, predicate_words, round_list_words, square_list_words}
-use Rattle.flat_sentences.specs.WordLaws.{HasBinaryInfixes, IsSentence}
+use Rattle.flat_sentences.specs.WordLaws.{HasBinaryInfixes, IsFittingSentence}
 use Rattle.flat_sentences.proofs.WordParts.{first_of, parts_of, one_of, no_words, of_kind, Says, between_says, square_says, round_says}
 use Rattle.flat_sentences.proofs.TermSentences.{whole_term_says, list_says, terms_say}
 
@@ -85,7 +85,7 @@ module _ (text : List ℕ) (naming : Naming) (well : IsWellFormedSignature namin
       → Says text (gates_words naming (gate ∷ gates)) (AreNames text) (AreGatesWritten naming (gate ∷ gates))
   gates_say gate [] tokens are =
       let one = one_of text tokens (gate_word naming gate) are in
-      subst (IsSentence (AreNames text) (AreGatesWritten naming (gate ∷ []))) (sym one.alone) (record {
+      subst (IsFittingSentence (AreNames text) (AreGatesWritten naming (gate ∷ []))) (sym one.alone) (record {
         thing = named text one.token ∷ [];
         is_one = last (a_name (of_kind text (gate_word naming gate) one.token one.is_word));
         fitting = ap (λ (n : List ℕ). n ∷ []) one.is_word.spelling_is;
@@ -95,21 +95,21 @@ module _ (text : List ℕ) (naming : Naming) (well : IsWellFormedSignature namin
       let name = first_of text tokens (gate_word naming gate) (comma ∷ gates_words naming (g ∷ gates)) are in
       let sign = first_of text name.rest comma (gates_words naming (g ∷ gates)) name.are_words in
       let rest = gates_say g gates sign.rest sign.are_words in
-      subst (IsSentence (AreNames text) (AreGatesWritten naming (gate ∷ (g ∷ gates))))
+      subst (IsFittingSentence (AreNames text) (AreGatesWritten naming (gate ∷ (g ∷ gates))))
       (sym (name.joined ∙ ap (λ (ts : List Token). name.first ∷ ts) sign.joined)) (record {
         thing = named text name.first ∷ rest.thing;
         is_one =
             before_more (a_name (of_kind text (gate_word naming gate) name.first name.is_word))
             (of_kind text comma sign.first sign.is_word) rest.is_one;
         fitting =
-            ap (λ (n : List ℕ). n ∷ spelled rest.thing) name.is_word.spelling_is
+            ap (λ (n : List ℕ). n ∷ spelled_names rest.thing) name.is_word.spelling_is
             ∙ ap (λ (ns : List (List ℕ)). gate_text naming gate ∷ ns) rest.fitting;
       })
 
   pub optional_gates_say : (gates : List ℕ)
       → Says text (gates_words naming gates) (AreOptionalNames text) (AreGatesWritten naming gates)
   optional_gates_say [] tokens are =
-      subst (IsSentence (AreOptionalNames text) (AreGatesWritten naming [])) (sym (no_words text tokens are))
+      subst (IsFittingSentence (AreOptionalNames text) (AreGatesWritten naming [])) (sym (no_words text tokens are))
       (record { thing = []; is_one = left_out; fitting = refl })
   optional_gates_say (gate ∷ gates) tokens are =
       let names = gates_say gate gates tokens are in
@@ -153,7 +153,7 @@ module _ (text : List ℕ) (naming : Naming) (well : IsWellFormedSignature namin
       let one = declared_says x parts.left parts.left_are in
       let rest = groups_say y xs sign.rest sign.are_words in
       subst
-      (IsSentence (Separated COMMA (AreVariablesOfSort text))
+      (IsFittingSentence (Separated COMMA (AreVariablesOfSort text))
       (λ groups. Correspond (IsVariableWritten naming.signature) (x ∷ (y ∷ xs)) (flat_map (λ group. group) groups)))
       (sym (parts.joined ∙ ap (λ (ts : List Token). parts.left ++ ts) sign.joined)) (record {
         thing = (one.thing ∷ []) ∷ rest.thing;
@@ -178,7 +178,8 @@ module _ (text : List ℕ) (naming : Naming) (well : IsWellFormedSignature namin
   meet_says no_gates tokens are =
       let word : Word = a_word INTERLEAVING (codes "|||") in
       let one = one_of text tokens word are in
-      subst (IsSentence (IsParallelSign text) (λ (sign : PlacedSign). IsMeetWritten naming no_gates sign.sign)) (sym one.alone) (record {
+      subst (IsFittingSentence (IsParallelSign text) (λ (sign : PlacedSign). IsMeetWritten naming no_gates sign.sign))
+      (sym one.alone) (record {
         thing = record { place = place_of one.token; sign = interleaving };
         is_one = sign_interleaving (of_kind text word one.token one.is_word);
         fitting = interleaving_written;
@@ -186,7 +187,8 @@ module _ (text : List ℕ) (naming : Naming) (well : IsWellFormedSignature namin
   meet_says all_gates tokens are =
       let word : Word = a_word FULL_SYNCHRONISATION (codes "||") in
       let one = one_of text tokens word are in
-      subst (IsSentence (IsParallelSign text) (λ (sign : PlacedSign). IsMeetWritten naming all_gates sign.sign)) (sym one.alone) (record {
+      subst (IsFittingSentence (IsParallelSign text) (λ (sign : PlacedSign). IsMeetWritten naming all_gates sign.sign))
+      (sym one.alone) (record {
         thing = record { place = place_of one.token; sign = full_synchronisation };
         is_one = sign_full (of_kind text word one.token one.is_word);
         fitting = full_written;
@@ -199,7 +201,7 @@ module _ (text : List ℕ) (naming : Naming) (well : IsWellFormedSignature namin
     where
       go : (ts : List Token) (given : List PlacedName) → Between GATES_OPEN GATES_CLOSE (AreOptionalNames text) ts given
           → AreGatesWritten naming gates given
-          → IsSentence (IsParallelSign text) (λ (sign : PlacedSign). IsMeetWritten naming (at_gates gates) sign.sign) ts
+          → IsFittingSentence (IsParallelSign text) (λ (sign : PlacedSign). IsMeetWritten naming (at_gates gates) sign.sign) ts
       go ts given (between {open_token = left} begin names close) writes = record {
         thing = record { place = place_of left; sign = synchronising given };
         is_one = sign_gates begin names close;
@@ -214,7 +216,7 @@ module _ (text : List ℕ) (naming : Naming) (well : IsWellFormedSignature namin
       let word : Word = a_word ENABLING (codes ">>") in
       let one = one_of text tokens word are in
       subst
-      (IsSentence (IsSign text)
+      (IsFittingSentence (IsSign text)
       (λ (sign : PlacedSign). (given : List WrittenVariable) × (sign.sign ≡ enabling given)
       × Correspond (IsVariableWritten naming.signature) [] given))
       (sym one.alone) (record {
@@ -231,7 +233,7 @@ module _ (text : List ℕ) (naming : Naming) (well : IsWellFormedSignature namin
       between_says text accept in_ (declarations_words naming (x ∷ xs)) (AreVariables text)
       (Correspond (IsVariableWritten naming.signature) (x ∷ xs)) (variables_say x xs) one.rest one.are_words in
       subst
-      (IsSentence (IsSign text)
+      (IsFittingSentence (IsSign text)
       (λ (sign : PlacedSign). (given : List WrittenVariable) × (sign.sign ≡ enabling given)
       × Correspond (IsVariableWritten naming.signature) (x ∷ xs) given))
       (sym one.joined) (record {
@@ -277,7 +279,7 @@ module _ (text : List ℕ) (naming : Naming) (well : IsWellFormedSignature namin
     premiss_says test true is means tokens are =
         let left = value_says test.left means.sort means.left tokens are in
         let begin = term_begins text tokens left.thing left.is_one in
-        subst (IsSentence (IsPremiss text) (IsTestWritten naming scope.names test)) (sym begin.joined) (record {
+        subst (IsFittingSentence (IsPremiss text) (IsTestWritten naming scope.names test)) (sym begin.joined) (record {
           thing = record { place = place_of begin.first; left = left.thing; right = None };
           is_one = true_term (subst (λ (ts : List Token). IsTerm text ts left.thing) begin.joined left.is_one);
           fitting = record {
@@ -294,7 +296,7 @@ module _ (text : List ℕ) (naming : Naming) (well : IsWellFormedSignature namin
         let left = value_says test.left means.sort means.left parts.left parts.left_are in
         let right = value_says test.right means.sort (means.written is) sign.rest sign.are_words in
         let begin = term_begins text parts.left left.thing left.is_one in
-        subst (IsSentence (IsPremiss text) (IsTestWritten naming scope.names test))
+        subst (IsFittingSentence (IsPremiss text) (IsTestWritten naming scope.names test))
         (sym (parts.joined ∙ ap (λ (ts : List Token). parts.left ++ ts) sign.joined
         ∙ ap (λ (ts : List Token). ts ++ sign.first ∷ sign.rest) begin.joined)) (record {
           thing = record { place = place_of begin.first; left = left.thing; right = Some right.thing };
@@ -355,11 +357,11 @@ module _ (text : List ℕ) (naming : Naming) (well : IsWellFormedSignature namin
 
     pub offers_say : (offers : List Offer) (tokens : List Token) → Every (OfferMeans naming scope) offers
         → AreWords text tokens (offers_words naming scope.names offers)
-        → IsSentence (Many (IsWrittenOffer text))
+        → IsFittingSentence (Many (IsWrittenOffer text))
         (λ groups. Correspond (IsOfferWritten naming scope.names) offers (flat_map (λ group. group) groups)) tokens
     offers_say [] tokens means are =
         subst
-        (IsSentence (Many (IsWrittenOffer text))
+        (IsFittingSentence (Many (IsWrittenOffer text))
         (λ groups. Correspond (IsOfferWritten naming scope.names) [] (flat_map (λ group. group) groups)))
         (sym (no_words text tokens are)) (record { thing = []; is_one = no_more; fitting = tt })
     offers_say (offer ∷ offers) tokens means are =
@@ -367,7 +369,7 @@ module _ (text : List ℕ) (naming : Naming) (well : IsWellFormedSignature namin
         let one = offer_says offer parts.left means.0 parts.left_are in
         let rest = offers_say offers parts.right means.1 parts.right_are in
         subst
-        (IsSentence (Many (IsWrittenOffer text))
+        (IsFittingSentence (Many (IsWrittenOffer text))
         (λ groups. Correspond (IsOfferWritten naming scope.names) (offer ∷ offers) (flat_map (λ group. group) groups)))
         (sym parts.joined) (record {
           thing = (one.thing ∷ []) ∷ rest.thing;
@@ -415,7 +417,7 @@ module _ (text : List ℕ) (naming : Naming) (well : IsWellFormedSignature namin
         let sort_word : Word = name_word (sort_text naming.signature sort) in
         let begin = first_of text tokens word (sort_word ∷ []) are in
         let one = one_of text begin.rest sort_word begin.are_words in
-        subst (IsSentence (IsWrittenExitValue text) (IsExitValueWritten naming scope.names (any_of sort)))
+        subst (IsFittingSentence (IsWrittenExitValue text) (IsExitValueWritten naming scope.names (any_of sort)))
         (sym (begin.joined ∙ ap (λ (ts : List Token). begin.first ∷ ts) one.alone)) (record {
           thing = exit_any (named text one.token);
           is_one = any_value (of_kind text word begin.first begin.is_word) (of_kind text sort_word one.token one.is_word);
@@ -436,7 +438,7 @@ module _ (text : List ℕ) (naming : Naming) (well : IsWellFormedSignature namin
         let sort_ = first_of text sign.rest sort_word (equals ∷ term_word) sign.are_words in
         let equal = first_of text sort_.rest equals term_word sort_.are_words in
         let term = value_says bound.1 bound.0.sort means equal.rest equal.are_words in
-        subst (IsSentence (IsLetDeclaration text) (IsBindingWritten naming scope.names bound))
+        subst (IsFittingSentence (IsLetDeclaration text) (IsBindingWritten naming scope.names bound))
         (sym (name.joined ∙ ap (λ (ts : List Token). name.first ∷ ts)
         (sign.joined ∙ ap (λ (ts : List Token). sign.first ∷ ts)
         (sort_.joined ∙ ap (λ (ts : List Token). sort_.first ∷ ts) equal.joined)))) (record {
@@ -470,7 +472,7 @@ module _ (text : List ℕ) (naming : Naming) (well : IsWellFormedSignature namin
       let sign = first_of text parts.right comma (commas_words (map words (y ∷ xs))) parts.right_are in
       let first = says.0 parts.left parts.left_are in
       let rest = separated_say words one fits y xs says.1 sign.rest sign.are_words in
-      subst (IsSentence (Separated COMMA one) (Correspond fits (x ∷ (y ∷ xs))))
+      subst (IsFittingSentence (Separated COMMA one) (Correspond fits (x ∷ (y ∷ xs))))
       (sym (parts.joined ∙ ap (λ (ts : List Token). parts.left ++ ts) sign.joined)) (record {
         thing = first.thing ∷ rest.thing;
         is_one = before_more first.is_one (of_kind text comma sign.first sign.is_word) rest.is_one;
@@ -511,7 +513,8 @@ module _ (text : List ℕ) (naming : Naming) (well : IsWellFormedSignature namin
       → Says text (predicate_words naming scope.names test) (Optional None (IsSelection text))
       (IsPredicateWritten naming scope.names test)
   predicate_says scope None means tokens are =
-      subst (IsSentence (Optional None (IsSelection text)) (IsPredicateWritten naming scope.names None)) (sym (no_words text tokens are))
+      subst (IsFittingSentence (Optional None (IsSelection text)) (IsPredicateWritten naming scope.names None))
+      (sym (no_words text tokens are))
       (record { thing = None; is_one = left_out; fitting = tt })
   predicate_says scope (Some test) means tokens are =
       let inside = test_says scope test means tokens are in
@@ -519,7 +522,7 @@ module _ (text : List ℕ) (naming : Naming) (well : IsWellFormedSignature namin
     where
       go : (ts : List Token) (premiss : WrittenPremiss) → Between LEFT_BRACKET RIGHT_BRACKET (IsPremiss text) ts premiss
           → IsTestWritten naming scope.names test premiss
-          → IsSentence (Optional None (IsSelection text)) (IsPredicateWritten naming scope.names (Some test)) ts
+          → IsFittingSentence (Optional None (IsSelection text)) (IsPredicateWritten naming scope.names (Some test)) ts
       go ts premiss (between left is right) fit =
           record { thing = Some premiss; is_one = there (selection left is right); fitting = fit }
 
@@ -527,7 +530,7 @@ module _ (text : List ℕ) (naming : Naming) (well : IsWellFormedSignature namin
       → Says text (square_list_words (map (λ (gate : ℕ). gate_word naming gate ∷ []) gates)) (AreOptionalGates text)
       (AreGatesWritten naming gates)
   bracketed_gates_say [] tokens are =
-      subst (IsSentence (AreOptionalGates text) (AreGatesWritten naming [])) (sym (no_words text tokens are))
+      subst (IsFittingSentence (AreOptionalGates text) (AreGatesWritten naming [])) (sym (no_words text tokens are))
       (record { thing = []; is_one = left_out; fitting = refl })
   bracketed_gates_say (gate ∷ gates) tokens are =
       let names =
@@ -536,32 +539,33 @@ module _ (text : List ℕ) (naming : Naming) (well : IsWellFormedSignature namin
       record { thing = names.thing; is_one = there names.is_one; fitting = names.fitting }
 
   words_same : (names : List Variable) (ts : List Term)
-      → map phrase_words (words_of_terms naming.signature names (terms_of ts)) ≡ map (term_words naming.signature names) ts
+      → map phrase_words (words_of_terms naming.signature names (argument_list_of ts)) ≡ map (term_words naming.signature names) ts
   words_same names [] = refl
   words_same names (t ∷ ts) =
       ap (λ (lists : List (List Word)). term_words naming.signature names t ∷ lists) (words_same names ts)
 
   pub arguments_say : (scope : PrintedScope) (ts : List Term) (sorts : List ℕ)
-      → TermsMean naming.signature scope.variables scope.names (terms_of ts) sorts
+      → TermsMean naming.signature scope.variables scope.names (argument_list_of ts) sorts
       → Says text (round_list_words (map (term_words naming.signature scope.names) ts)) (AreArguments text)
-      (λ (ws : List WrittenTerm). AreWrittenAs naming.signature scope.names (terms_of ts) (written_terms ws))
+      (λ (ws : List WrittenTerm). AreWrittenAs naming.signature scope.names (argument_list_of ts) (written_terms ws))
   arguments_say scope [] sorts means tokens are =
       subst
-      (IsSentence (AreArguments text)
-      (λ (ws : List WrittenTerm). AreWrittenAs naming.signature scope.names (terms_of []) (written_terms ws)))
+      (IsFittingSentence (AreArguments text)
+      (λ (ws : List WrittenTerm). AreWrittenAs naming.signature scope.names (argument_list_of []) (written_terms ws)))
       (sym (no_words text tokens are)) (record { thing = []; is_one = no_arguments; fitting = tt })
   arguments_say scope (t ∷ ts) sorts means tokens are =
       let inside =
-      round_says text (commas_words (map phrase_words (words_of_terms naming.signature scope.names (terms_of (t ∷ ts))))) (AreTerms text)
-      (λ (ws : List WrittenTerm). AreWrittenAs naming.signature scope.names (terms_of (t ∷ ts)) (written_terms ws))
-      (list_says text naming.signature scope.names t (terms_of ts)
-      (terms_say text naming.signature scope.names well binary scope.variables (terms_of (t ∷ ts)) sorts means)) tokens
+      round_says text (commas_words (map phrase_words (words_of_terms naming.signature scope.names (argument_list_of (t ∷ ts)))))
+      (AreTerms text)
+      (λ (ws : List WrittenTerm). AreWrittenAs naming.signature scope.names (argument_list_of (t ∷ ts)) (written_terms ws))
+      (list_says text naming.signature scope.names t (argument_list_of ts)
+      (terms_say text naming.signature scope.names well binary scope.variables (argument_list_of (t ∷ ts)) sorts means)) tokens
       (subst (λ (lists : List (List Word)). AreWords text tokens (round_words (commas_words lists)))
       (sym (words_same scope.names (t ∷ ts))) are) in
       go tokens inside.thing inside.is_one inside.fitting
     where
       go : (us : List Token) (ws : List WrittenTerm) → Between LEFT_PARENTHESIS RIGHT_PARENTHESIS (AreTerms text) us ws
-          → AreWrittenAs naming.signature scope.names (terms_of (t ∷ ts)) (written_terms ws)
-          → IsSentence (AreArguments text)
-          (λ (vs : List WrittenTerm). AreWrittenAs naming.signature scope.names (terms_of (t ∷ ts)) (written_terms vs)) us
+          → AreWrittenAs naming.signature scope.names (argument_list_of (t ∷ ts)) (written_terms ws)
+          → IsFittingSentence (AreArguments text)
+          (λ (vs : List WrittenTerm). AreWrittenAs naming.signature scope.names (argument_list_of (t ∷ ts)) (written_terms vs)) us
       go us ws (between left terms right) fit = record { thing = ws; is_one = some_arguments left terms right; fitting = fit }

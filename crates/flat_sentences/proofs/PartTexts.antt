@@ -6,11 +6,11 @@ use Rattle.lotos_lexer.specs.Bytes.{is_sign}
 use Rattle.lotos_base.specs.Signature.{Signature, Operation, Form, prefix_form, infix_form, IsWellFormedSignature}
 use Rattle.lotos_base.specs.Twins.{has_twin}
 use Rattle.lotos_base.specs.Equation.{Variable}
-use Rattle.lotos_base.specs.Term.{Term, Terms, variable, node, no_terms, term_then, terms_of}
+use Rattle.lotos_base.specs.Term.{Term, Terms, variable, node, no_terms, term_then, argument_list_of}
 use Rattle.lotos_lexer.specs.declared.kinds.TheConstants.{ANY, ACCEPT, IN, COLON, EQUALS, EXCLAMATION, QUESTION, INTERLEAVING, FULL_SYNCHRONISATION, GATES_OPEN, GATES_CLOSE, ENABLING}
 use Rattle.behaviour_semantics.specs.Behaviour.{Test, Offer, give, ask, ExitValue, exit_value, any_of, SynchronisationSet, no_gates, all_gates, at_gates, asked_variables}
 use Rattle.behaviour_semantics.specs.WellFormed.{Every}
-use Rattle.printed_texts.specs.Brackets.{begins_with, spaced, square, bracketed, commas, after_commas}
+use Rattle.printed_texts.specs.Brackets.{begins_with_sign, spaced, square, bracketed, commas, after_commas}
 use Rattle.printed_texts.specs.TermText.{Phrase, sort_text, variable_text, operand_text, of_text, arguments_text, prefix_phrase, operator_text, between_text, infix_phrase, application_phrase, phrase_of, phrases_of, node_phrase, term_text}
 use Rattle.printed_texts.specs.BehaviourText.{Naming, gate_text, gates_text, declared_text, declarations_text, is_constant, equation_text, premiss_text, test_text, predicate_text, offer_text, offers_text, exit_value_text, round_list, square_list, sign_text, enable_sign, binding_text, between_blanks}
 use Rattle.specification_laws.specs.TextNames.{IsWordSpelling, IsOperationSpelling, HasTextNames}
@@ -275,14 +275,14 @@ module _ (naming : Naming) (well : IsWellFormedSignature naming.signature) (spel
       (λ v is. exit_value_extends scope v has is) means)
 
   each_term : (scope : PrintedScope) (ts : List Term) (sorts : List ℕ) → HasScopeNames naming scope
-      → TermsMean naming.signature scope.variables scope.names (terms_of ts) sorts
+      → TermsMean naming.signature scope.variables scope.names (argument_list_of ts) sorts
       → Every (λ (t : Term). Extends (term_text naming.signature scope.names t) (term_words naming.signature scope.names t)) ts
   each_term scope [] sorts has means = tt
   each_term scope (t ∷ ts) [] has means = absurd means
   each_term scope (t ∷ ts) (s ∷ ss) has means = (term_extends scope t s has means.0, each_term scope ts ss has means.1)
 
   pub values_extend : (scope : PrintedScope) (ts : List Term) (sorts : List ℕ) → HasScopeNames naming scope
-      → TermsMean naming.signature scope.variables scope.names (terms_of ts) sorts
+      → TermsMean naming.signature scope.variables scope.names (argument_list_of ts) sorts
       → Extends (round_list (map (term_text naming.signature scope.names) ts))
       (round_list_words (map (term_words naming.signature scope.names) ts))
   values_extend scope ts sorts has means =
@@ -356,7 +356,7 @@ module _ (naming : Naming) (well : IsWellFormedSignature naming.signature) (spel
       (sym (five_assoc (spaced 62 bytes) (codes "]") (codes "|") (codes " ") rest))
       (blank_cut false (124 ∷ 91 ∷ (spaced 62 bytes ++ (93 ∷ 124 ∷ 32 ∷ rest))) _
       (word_cut false (a_word GATES_OPEN (codes "|[")) (spaced 62 bytes ++ (93 ∷ 124 ∷ 32 ∷ rest)) _ (omega arith) refl
-      (spaced_gates bytes rest words more inside cut (begins_with 62 bytes)))))
+      (spaced_gates bytes rest words more inside cut (begins_with_sign 62 bytes)))))
 
   pub meet_whole : (scope : PrintedScope) (meet : SynchronisationSet) → HasScopeNames naming scope → MeetMeans naming scope meet
       → AreWhole (between_blanks (sign_text naming meet)) (meet_words naming meet)

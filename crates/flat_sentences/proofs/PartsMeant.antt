@@ -13,16 +13,16 @@ use Rattle.syntax_trees.specs.WrittenVariable.{WrittenVariable}
 use Rattle.sort_terms.specs.ReadingOutcome.{one_name}
 use Rattle.behaviour_semantics.specs.WellFormed.{Every}
 use Rattle.behaviour_semantics.proofs.InstanceLemmas.{every_at}
-use Rattle.specification_laws.specs.HandedOn.{sort_text, sort_name, variable_text, Naming, gate_text}
+use Rattle.specification_laws.specs.HandedOn.{sort_text, sort_name, variable_text, Naming, gate_text, names_of_variables}
 use Rattle.scope_parts.specs.Resolution.{Resolution, resolved, faulty, beside}
 use Rattle.scope_parts.specs.Scope.{Binding, bound_to, bind, bind_all, is_bound, found_gate, gate_at, gates_at, double_from, first_double}
-use Rattle.scope_parts.specs.Numbering.{spelled, each_once_from}
+use Rattle.scope_parts.specs.Numbering.{spelled_names, each_once_from}
 use Rattle.scope_parts.specs.Sorts.{sort_from, sort_named, found_sort, sort_at, variable_at, sorted_variables, variables_at, placed_variables}
 use Rattle.scope_parts.specs.Behaviours.{numbers_from}
 use Rattle.scope_parts.proofs.FormedLists.{same_resolved, never_faulty, made_of, front_of, beside_of}
 use Rattle.scope_parts.proofs.FormedDefinitions.{every_both}
 use Rattle.specification_laws.specs.TermMeanings.{AreLookedUp}
-use Rattle.flat_sentences.specs.Meanings.{SortMeans, GateMeans, gate_texts, NoneStandsTwice, AreInRow, names_of, AreDeclaredVariables, PrintedScope, behind_variables}
+use Rattle.flat_sentences.specs.Meanings.{SortMeans, GateMeans, gate_texts, NoneStandsTwice, AreInRow, AreDeclaredVariables, PrintedScope, behind_variables}
 use Rattle.flat_sentences.specs.MeaningLaws.{FitsNaming, AreNamesFrom}
 
 -- ---- Names that stand once
@@ -33,14 +33,14 @@ no_double_beside (Some double) (resolved y) x is = never_faulty x _ is
 no_double_beside (Some double) (faulty f) x is = never_faulty x _ is
 
 pub none_twice : (before : List Binding) (names : List PlacedName) → double_from before names ≡ None
-    → NoneStandsTwice before (spelled names)
+    → NoneStandsTwice before (spelled_names names)
 none_twice before [] none = tt
 none_twice before (name ∷ names) none =
     go (is_bound before name.name) refl none (λ later. none_twice (bind name.name 0 before) names later)
   where
     go : (b : Bool) → is_bound before name.name ≡ b → (if b then Some name else double_from (bind name.name 0 before) names) ≡ None
-        → (double_from (bind name.name 0 before) names ≡ None → NoneStandsTwice (bind name.name 0 before) (spelled names))
-        → NoneStandsTwice before (spelled (name ∷ names))
+        → (double_from (bind name.name 0 before) names ≡ None → NoneStandsTwice (bind name.name 0 before) (spelled_names names))
+        → NoneStandsTwice before (spelled_names (name ∷ names))
     go true is none later = absurd (none-some _ (sym none))
     go false is none later = (is, later none)
 
@@ -135,29 +135,29 @@ module _ (signature : Signature) where
   pub record AreMeant (next : ℕ) (names : List (List ℕ)) (xs : List Variable) : Type 0 where
     pub row : AreInRow next xs
     pub sorts : Every (λ (x : Variable). SortMeans signature x.sort) xs
-    pub spelling : names_of xs ≡ names
+    pub spelling : names_of_variables xs ≡ names
 
   pub one_more : (next : ℕ) (name : List ℕ) (names : List (List ℕ)) (x : Variable) (xs : List Variable) → IsVariableMeant next name x
       → AreMeant (suc next) names xs → AreMeant next (name ∷ names) (x ∷ xs)
   one_more next name names x xs here rest = record {
     row = (here.numbered, rest.row);
     sorts = (here.sorted, rest.sorts);
-    spelling = ap (λ (n : List ℕ). n ∷ names_of xs) here.named ∙ ap (λ (ns : List (List ℕ)). name ∷ ns) rest.spelling;
+    spelling = ap (λ (n : List ℕ). n ∷ names_of_variables xs) here.named ∙ ap (λ (ns : List (List ℕ)). name ∷ ns) rest.spelling;
   }
 
   sorted_meant : (next : ℕ) (ws : List WrittenVariable) (xs : List Variable) → resolved xs ≡ sorted_variables signature next ws
-      → AreMeant next (spelled (placed_variables ws)) xs
+      → AreMeant next (spelled_names (placed_variables ws)) xs
   sorted_meant next [] xs is =
       subst (AreMeant next []) (sym (same_resolved xs [] is)) (record { row = tt; sorts = tt; spelling = refl })
   sorted_meant next (w ∷ ws) xs is =
       let first = made_of (variable_at signature next w) _ xs is in
       let rest = front_of first.0 (sorted_variables signature (suc next) ws) xs first.2 in
-      subst (AreMeant next (spelled (placed_variables (w ∷ ws)))) (sym rest.2)
-      (one_more next w.name (spelled (placed_variables ws)) first.0 rest.0 (variable_meant next w first.0 first.1)
+      subst (AreMeant next (spelled_names (placed_variables (w ∷ ws)))) (sym rest.2)
+      (one_more next w.name (spelled_names (placed_variables ws)) first.0 rest.0 (variable_meant next w first.0 first.1)
       (sorted_meant (suc next) ws rest.0 rest.1))
 
   pub declared_meant : (next : ℕ) (placed : List PlacedName) (xs : List Variable) → first_double placed ≡ None
-      → AreMeant next (spelled placed) xs → AreDeclaredVariables signature next xs
+      → AreMeant next (spelled_names placed) xs → AreDeclaredVariables signature next xs
   declared_meant next placed xs none meant = record {
     numbered = meant.row;
     sorted = meant.sorts;
@@ -256,10 +256,6 @@ module _ (naming : Naming) where
 pub row_again : {A : Type 0} (next : ℕ) (xs : List A) → numbers_from next (numbers_from next xs) ≡ numbers_from next xs
 row_again next [] = refl
 row_again next (x ∷ xs) = ap (λ (ns : List ℕ). next ∷ ns) (row_again (next + 1) xs)
-
-pub row_long : {A : Type 0} (next : ℕ) (xs : List A) → length (numbers_from next xs) ≡ length xs
-row_long next [] = refl
-row_long next (x ∷ xs) = ap suc (row_long (next + 1) xs)
 
 -- ---- Names of variables that are looked up
 

@@ -4,7 +4,7 @@ use Rattle.std.specs.Prelude.{Option, None, Some, if◌then◌else◌}
 use Rattle.lotos_base.specs.Names.{folded}
 use Rattle.lotos_base.specs.Signature.{Signature, IsWellFormedSignature}
 use Rattle.lotos_base.specs.Equation.{Place, Variable}
-use Rattle.lotos_base.specs.Term.{Term, terms_of}
+use Rattle.lotos_base.specs.Term.{Term, argument_list_of}
 use Rattle.lotos_base.specs.WrittenTerm.{PlacedName, WrittenTerm, written_terms}
 use Rattle.syntax_trees.specs.WrittenVariable.{WrittenVariable}
 use Rattle.syntax_trees.specs.WrittenEquation.{WrittenPremiss}
@@ -12,25 +12,22 @@ use Rattle.syntax_trees.specs.WrittenBehaviour.{WrittenSign, WrittenGateChoice, 
 use Rattle.sort_terms.specs.ReadingOutcome.{IsExpected}
 use Rattle.behaviour_semantics.specs.Behaviour.{Test, Offer, give, ask, ExitValue, exit_value, any_of, SynchronisationSet, no_gates, all_gates, at_gates, asked_variables, sorts_of, let_variables}
 use Rattle.behaviour_semantics.specs.WellFormed.{Every}
-use Rattle.specification_laws.specs.HandedOn.{sort_text, Naming, gate_text, is_constant}
-use Rattle.scope_parts.specs.Resolution.{Resolution, resolved, and_then, put_in_front, beside}
+use Rattle.specification_laws.specs.HandedOn.{sort_text, Naming, gate_text, is_constant, names_of_variables}
+use Rattle.scope_parts.specs.Resolution.{Resolution, resolved, put_in_front, beside}
 use Rattle.scope_parts.specs.Scope.{Binding, bound_to, bind, found_gate, gate_at, gates_at, double_from, first_double}
-use Rattle.scope_parts.specs.Numbering.{spelled, each_once_from, asked_for}
+use Rattle.scope_parts.specs.Numbering.{spelled_names, each_once_from, asked_for}
 use Rattle.scope_parts.specs.Sorts.{Truth, sort_named, found_sort, sort_at, variable_at, sorted_variables, variables_at, placed_variables}
 use Rattle.scope_parts.specs.Terms.{TermIs, TrueTermIs, PremissIs, TestIs, TestOptionIs, ExitValuesAre, ValuesAre, BindingsAre, LetIs, OffersFollow, OffersAre, let_names}
 use Rattle.scope_parts.specs.Choices.{GateChoice, ParChoice, sign_at, choices_at, signs_follow, par_choices_at}
 use Rattle.scope_parts.specs.Behaviours.{numbers_from}
+use Rattle.scope_parts.proofs.AnswerLemmas.{value_then}
 use Rattle.specification_laws.specs.WrittenAs.{IsWrittenAs, AreWrittenAs}
 use Rattle.specification_laws.specs.TermMeanings.{TermsMean}
-use Rattle.flat_sentences.specs.Meanings.{SortMeans, GateMeans, gate_texts, NoneStandsTwice, AreInRow, names_of, AreDeclaredVariables, PrintedScope, ValueMeans, ExitValueMeans, OfferMeans, IsImpliedTruth, TestMeans, PredicateMeans, MeetMeans}
+use Rattle.flat_sentences.specs.Meanings.{SortMeans, GateMeans, gate_texts, NoneStandsTwice, AreInRow, AreDeclaredVariables, PrintedScope, ValueMeans, ExitValueMeans, OfferMeans, IsImpliedTruth, TestMeans, PredicateMeans, MeetMeans}
 use Rattle.flat_sentences.specs.WrittenBehaviours.{Correspond, IsVariableWritten, AreGatesWritten, IsExitValueWritten, IsOfferWritten, IsRightWritten, IsTestWritten, IsPredicateWritten, IsBindingWritten, IsMeetWritten, interleaving_written, full_written, synchronising_written, IsGateChoiceWritten}
 use Rattle.specification_laws.proofs.WrittenLemmas.{terms_have_one_reading, pairs_have_one_reading}
 
 -- ---- Questions that have answers
-
-pub and_then_is : {A B : Type 0} (r : Resolution A) (x : A) (next : A → Resolution B) (o : Resolution B) → resolved x ≡ r → o ≡ next x
-    → o ≡ and_then r next
-and_then_is r x next o first later = later ∙ ap (λ (q : Resolution _). and_then q next) first
 
 pub in_front_is : {A : Type 0} (r : Resolution (List A)) (x : A) (xs : List A) → resolved xs ≡ r
     → resolved (x ∷ xs) ≡ put_in_front x r
@@ -42,7 +39,7 @@ beside_is double r x none same = same ∙ ap (λ (d : Option PlacedName). beside
 
 -- ---- Names that stand once
 
-pub no_double : (before : List Binding) (names : List PlacedName) → NoneStandsTwice before (spelled names)
+pub no_double : (before : List Binding) (names : List PlacedName) → NoneStandsTwice before (spelled_names names)
     → double_from before names ≡ None
 no_double before [] none = refl
 no_double before (name ∷ names) none =
@@ -67,7 +64,7 @@ module _ (signature : Signature) where
       → IsVariableWritten signature x w → resolved x ≡ variable_at signature next w
   variable_is next x w numbered means writes =
       let make : List ℕ → ℕ → Variable = λ name number. record { name = name; number = number; sort = x.sort } in
-      and_then_is (sort_at signature w.sort_place w.sort) x.sort
+      value_then (sort_at signature w.sort_place w.sort) x.sort
       (λ sort. resolved (record { name = w.name; number = next; sort = sort })) (resolved x)
       (sort_is w.sort_place w.sort x.sort means writes.1)
       (ap resolved (ap (λ (name : List ℕ). make name x.number) (sym writes.0) ∙ ap (λ (n : ℕ). make w.name n) numbered))
@@ -79,22 +76,22 @@ module _ (signature : Signature) where
   sorted_are next [] (w ∷ ws) row sorts writes = absurd writes
   sorted_are next (x ∷ xs) [] row sorts writes = absurd writes
   sorted_are next (x ∷ xs) (w ∷ ws) row sorts writes =
-      and_then_is (variable_at signature next w) x
+      value_then (variable_at signature next w) x
       (λ (y : Variable). put_in_front y (sorted_variables signature (suc next) ws)) (resolved (x ∷ xs))
       (variable_is next x w row.0 sorts.0 writes.0)
       (in_front_is (sorted_variables signature (suc next) ws) x xs (sorted_are (suc next) xs ws row.1 sorts.1 writes.1))
 
   pub names_written : (xs : List Variable) (ws : List WrittenVariable) → Correspond (IsVariableWritten signature) xs ws
-      → spelled (placed_variables ws) ≡ names_of xs
+      → spelled_names (placed_variables ws) ≡ names_of_variables xs
   names_written [] [] writes = refl
   names_written [] (w ∷ ws) writes = absurd writes
   names_written (x ∷ xs) [] writes = absurd writes
   names_written (x ∷ xs) (w ∷ ws) writes =
-      ap (λ (name : List ℕ). name ∷ spelled (placed_variables ws)) writes.0.0
+      ap (λ (name : List ℕ). name ∷ spelled_names (placed_variables ws)) writes.0.0
       ∙ ap (λ (ns : List (List ℕ)). x.name ∷ ns) (names_written xs ws writes.1)
 
   pub no_double_written : (xs : List Variable) (ws : List WrittenVariable) → Correspond (IsVariableWritten signature) xs ws
-      → NoneStandsTwice [] (names_of xs) → first_double (placed_variables ws) ≡ None
+      → NoneStandsTwice [] (names_of_variables xs) → first_double (placed_variables ws) ≡ None
   no_double_written xs ws writes none =
       no_double [] (placed_variables ws)
       (subst (λ (names : List (List ℕ)). NoneStandsTwice [] names) (sym (names_written xs ws writes)) none)
@@ -126,8 +123,8 @@ module _ (naming : Naming) where
   gates_are visible (g ∷ gates) [] means writes = cc
   gates_are visible (g ∷ gates) (w ∷ ws) means writes =
       let named : w.name ≡ gate_text naming g = cc in
-      let others : spelled ws ≡ gate_texts naming gates = cc in
-      and_then_is (gate_at visible w) g (λ (n : ℕ). put_in_front n (gates_at visible ws)) (resolved (g ∷ gates))
+      let others : spelled_names ws ≡ gate_texts naming gates = cc in
+      value_then (gate_at visible w) g (λ (n : ℕ). put_in_front n (gates_at visible ws)) (resolved (g ∷ gates))
       (gate_is visible g w means.0 named)
       (in_front_is (gates_at visible ws) g gates (gates_are visible gates ws means.1 others))
 
@@ -144,7 +141,7 @@ module _ (naming : Naming) where
   meet_is scope no_gates sign means interleaving_written = refl
   meet_is scope all_gates sign means full_written = refl
   meet_is scope (at_gates gates) sign means (synchronising_written {given = given} writes) =
-      and_then_is (gates_at scope.gates given) gates (λ (ns : List ℕ). resolved (at_gates ns)) (resolved (at_gates gates))
+      value_then (gates_at scope.gates given) gates (λ (ns : List ℕ). resolved (at_gates ns)) (resolved (at_gates gates))
       (gates_are scope.gates gates given means writes) refl
 
   pub choice_is : (visible : List Binding) (next gate : ℕ) (among : List ℕ) (w : WrittenGateChoice)
@@ -154,7 +151,7 @@ module _ (naming : Naming) where
   choice_is visible next gate among w numbered means writes =
       let same : next ≡ gate = cc in
       let make : ℕ → GateChoice = λ n. record { gate = n; among = among } in
-      and_then_is (gates_at visible w.among) among
+      value_then (gates_at visible w.among) among
       (λ (ns : List ℕ). put_in_front (record { gate = next; among = ns }) (resolved []))
       (resolved (record { gate = gate; among = among } ∷ []))
       (gates_are visible among w.among means writes.listed) (ap (λ (n : ℕ). resolved (make n ∷ [])) (sym same))
@@ -166,10 +163,10 @@ module _ (naming : Naming) where
       ≡ par_choices_at scope.gates next sign (w ∷ [])
   par_is scope next gate among meet w sign numbered means meets writes signed =
       let one : ParChoice = record { choice_ = record { gate = gate; among = among }; meet = meet } in
-      and_then_is (choices_at scope.gates next (w ∷ [])) (record { gate = gate; among = among } ∷ []) _ (resolved (one ∷ []))
+      value_then (choices_at scope.gates next (w ∷ [])) (record { gate = gate; among = among } ∷ []) _ (resolved (one ∷ []))
       (choice_is scope.gates next gate among w numbered means writes)
-      (and_then_is (signs_follow scope.gates next sign (w ∷ [])) (meet ∷ []) _ (resolved (one ∷ []))
-      (and_then_is (sign_at scope.gates sign) meet (λ (m : SynchronisationSet). put_in_front m (resolved [])) (resolved (meet ∷ []))
+      (value_then (signs_follow scope.gates next sign (w ∷ [])) (meet ∷ []) _ (resolved (one ∷ []))
+      (value_then (sign_at scope.gates sign) meet (λ (m : SynchronisationSet). put_in_front m (resolved [])) (resolved (meet ∷ []))
       (meet_is scope meet sign meets signed) refl) refl)
 
 -- ---- Terms
@@ -201,8 +198,8 @@ module _ (naming : Naming) (well : IsWellFormedSignature naming.signature) (scop
   )
 
   pub values_are : (parameters : List Variable) (ts : List Term) (ws : List WrittenTerm)
-      → TermsMean naming.signature scope.variables scope.names (terms_of ts) (sorts_of parameters)
-      → AreWrittenAs naming.signature scope.names (terms_of ts) (written_terms ws)
+      → TermsMean naming.signature scope.variables scope.names (argument_list_of ts) (sorts_of parameters)
+      → AreWrittenAs naming.signature scope.names (argument_list_of ts) (written_terms ws)
       → ValuesAre naming.signature scope.variables (map (λ (x : Variable). Some x.sort) parameters) ws (resolved ts)
   values_are [] [] ws means writes = refl
   values_are [] (t ∷ ts) ws means writes = absurd means

@@ -14,7 +14,7 @@ use Rattle.lotos_lexer.specs.Tokens.{Lexed, start, behind, behind_all, with_toke
 use Rattle.lotos_lexer.proofs.CuttingLemmas.{cut-token, cut-blank}
 use Rattle.specification_laws.proofs.CutPieces.{behind_bytes, behind_joined, spelled_there}
 use Rattle.flat_sentences.specs.PrintedWords.{Word, AreWords}
-use Rattle.flat_sentences.specs.TextPieces.{TextPiece, word_piece, blank_piece, bytes_of, words_of, AreTokens}
+use Rattle.flat_sentences.specs.TextPieces.{TextPiece, word_piece, blank_piece, bytes_of_pieces, words_of_pieces, AreTokens}
 use Rattle.flat_sentences.specs.PieceLaws.{TextsInPiecesAreCut, PieceExamples}
 
 -- the rest of a text is cut into tokens, which are the words
@@ -65,30 +65,31 @@ cut_at_word number before open_list word rest some there =
     span : (0 < length bytes) × (length bytes ≤ length (bytes ++ rest))
     span = (some, omega (arith, length-append bytes rest))
 
-pieces_cut : (number : ℕ) (text before : List ℕ) (open_list : Bool) (pieces : List TextPiece) → text ≡ before ++ bytes_of pieces
-    → AreTokens open_list pieces → IsCutFrom number text before open_list (bytes_of pieces) (words_of pieces)
+pieces_cut : (number : ℕ) (text before : List ℕ) (open_list : Bool) (pieces : List TextPiece) → text ≡ before ++ bytes_of_pieces pieces
+    → AreTokens open_list pieces → IsCutFrom number text before open_list (bytes_of_pieces pieces) (words_of_pieces pieces)
 pieces_cut number text before open_list [] is are = record { tokens = []; cut_is = refl; are = tt }
 pieces_cut number text before open_list (blank_piece byte ∷ pieces) is are =
     let rest =
-    pieces_cut number text (before ++ byte ∷ []) open_list pieces (is ∙ sym (append_assoc before (byte ∷ []) (bytes_of pieces))) are.1 in
+    pieces_cut number text (before ++ byte ∷ []) open_list pieces
+    (is ∙ sym (append_assoc before (byte ∷ []) (bytes_of_pieces pieces))) are.1 in
     record {
       tokens = rest.tokens;
-      cut_is = cut_at_blank number before open_list byte (bytes_of pieces) are.0 ∙ rest.cut_is;
+      cut_is = cut_at_blank number before open_list byte (bytes_of_pieces pieces) are.0 ∙ rest.cut_is;
       are = rest.are;
     }
 pieces_cut number text before open_list (word_piece word ∷ pieces) is are =
     let here : Token = token_at number (behind_bytes before) (lexeme_of word.kind (length word.spelling)) in
     let rest =
     pieces_cut number text (before ++ word.spelling) (list_open_behind word.kind open_list) pieces
-    (is ∙ sym (append_assoc before word.spelling (bytes_of pieces))) are.2 in
+    (is ∙ sym (append_assoc before word.spelling (bytes_of_pieces pieces))) are.2 in
     record {
       tokens = here ∷ rest.tokens;
       cut_is =
-          cut_at_word number before open_list word (bytes_of pieces) are.0 are.1 ∙ ap (with_token here) rest.cut_is;
+          cut_at_word number before open_list word (bytes_of_pieces pieces) are.0 are.1 ∙ ap (with_token here) rest.cut_is;
       are = (
         record {
           kind_is = refl;
-          spelling_is = spelled_there number text before word.spelling (bytes_of pieces) word.kind is;
+          spelling_is = spelled_there number text before word.spelling (bytes_of_pieces pieces) word.kind is;
         },
         rest.are,
       );
@@ -96,7 +97,7 @@ pieces_cut number text before open_list (word_piece word ∷ pieces) is are =
 
 pub texts_in_pieces_are_cut : TextsInPiecesAreCut
 texts_in_pieces_are_cut number pieces are =
-    let all = pieces_cut number (bytes_of pieces) [] false pieces refl are in
+    let all = pieces_cut number (bytes_of_pieces pieces) [] false pieces refl are in
     record { tokens = all.tokens; cut_into = all.cut_is; are_words = all.are }
 
 -- how long a token is

@@ -1,6 +1,6 @@
 -- Items that data are written as come to the same data, without a fault.
 use Rattle.std.proofs.Common.{◌≡◌, ℕ, zero, suc, ◌≤◌, Bool, true, false, ◌||◌, List, [], ◌∷◌, map, length, refl, ap, sym, ◌∙◌, subst, arith}
-use Rattle.std.specs.Prelude.{Option, None, Some, slice_get, nat_lt, fold, if◌then◌else◌}
+use Rattle.std.specs.Prelude.{None, Some, slice_get, nat_lt, fold, if◌then◌else◌}
 use Rattle.std.specs.List.{flat_map}
 use Rattle.std.proofs.lemmas.List.{append-nil}
 use Rattle.std.proofs.lemmas.Option.{none-some}
@@ -14,19 +14,20 @@ use Rattle.syntax_trees.specs.WrittenItem.{WrittenOperation, WrittenSections, Wr
 use Rattle.sort_terms.specs.WellFormedTest.{all_differ, are_one_sort, are_one_operation}
 use Rattle.type_definitions.specs.DeclaredTypes.{DeclaredType, types_of, mention_graph}
 use Rattle.type_definitions.specs.TypeGraph.{IsAcyclic, mentioned_by, is_among}
-use Rattle.type_definitions.specs.TypeFault.{TypeFault, first_fault, fault_along}
+use Rattle.type_definitions.specs.TypeFault.{fault_along}
 use Rattle.type_definitions.specs.FlatteningOrder.{IsFlatteningOrder, flattened_now, none_left, next_come_to}
 use Rattle.type_definitions.specs.MentionFaults.{MentionFault, double_type, unknown_type, type_cycle, IsMentionFault}
 use Rattle.type_definitions.specs.Presentation.{Presentation, nothing, presentation_limit}
-use Rattle.type_definitions.specs.Union.{Mentioned, union_of, union_fault, joined, presentation_fault}
+use Rattle.type_definitions.specs.Union.{Mentioned, union_of, union_fault, joined_presentation, presentation_fault}
 use Rattle.type_definitions.specs.Actualisation.{marked_from, is_formal}
 use Rattle.type_definitions.specs.Declarations.{with_sort, sort_fault, with_operation, operation_fault, with_declarations, declaration_fault}
 use Rattle.type_definitions.specs.DeclaredEquations.{GiveAll, asked_of_group}
 use Rattle.type_definitions.specs.Extension.{IsExtension}
-use Rattle.type_definitions.specs.Flattened.{all_presented, next_presented, declared_with, without_formals, data_of, IsFlattening}
+use Rattle.type_definitions.specs.Flattened.{all_presented, next_presented, declared_with, without_formals, flattened_data_of, IsFlattening}
 use Rattle.type_flatten.proofs.ContributionLemmas.{contributions}
 use Rattle.type_flatten.proofs.TypesFine.{flattened_data}
 use Rattle.type_flatten.proofs.OneOutcome.{flattening_is_decided}
+use Rattle.type_flatten.proofs.HandedOn.{none_fails}
 use Rattle.specification_laws.specs.HandedOn.{AreSameEquations}
 use Rattle.flat_sentences.specs.SameSpelling.{AreSortsSpelledAlike, AreOperationsSpelledAlike, AreDataSpelledAlike}
 use Rattle.flat_sentences.specs.WrittenData.{AreSectionsWritten, IsBodyWritten, AreItemsWritten, own_equations, equations_of_items, StandApart}
@@ -99,9 +100,6 @@ plain_sections data_ sections is =
         ≡ plain sections.sorts sections.operations sections.equations.groups
     by formal_sorts formal_operations formal_variables formal_groups variables e f g h k = cc (e, f, g, h, k)
 
-both_none : (a b : Option TypeFault) → a ≡ None → b ≡ None → first_fault a b ≡ None
-both_none a b first later = ap (λ (o : Option TypeFault). first_fault o b) first ∙ later
-
 none_marked : {A : Type 0} (number : ℕ) (xs : List A) → marked_from [] number xs ≡ []
 none_marked number [] = refl
 none_marked number (x ∷ xs) = none_marked (suc number) xs
@@ -159,7 +157,7 @@ module _ (data_ : Data) (place : Place) (name : List ℕ) (form : AreDataOfText 
 
     none_faulty : declaration_fault name nothing own_sections ≡ None
     none_faulty =
-        both_none (fault_along (sort_fault name false) (with_sort name false) nothing sections.sorts)
+        none_fails (fault_along (sort_fault name false) (with_sort name false) nothing sections.sorts)
         (fault_along (operation_fault name false) (with_operation name false) (fold (with_sort name false) nothing sections.sorts)
         sections.operations)
         (sorts_faultless name data_.signature.sorts sections.sorts [] is.sorts no_operations)
@@ -188,7 +186,7 @@ module _ (data_ : Data) (place : Place) (name : List ℕ) (form : AreDataOfText 
     abbrev mentioned : Mentioned
     mentioned = declared_with t made
 
-    fine : IsWellFormedData (data_of made)
+    fine : IsWellFormedData (flattened_data_of made)
     fine = flattened_data.presentations [] name (extends [] own_sections) made (λ m at. absurd (none-some m at.1)) extension
 
     places_differ : PlacesDiffer given.new
@@ -204,10 +202,10 @@ module _ (data_ : Data) (place : Place) (name : List ℕ) (form : AreDataOfText 
             from_map (λ (w : WrittenEquation). w.place) (equations_of sections.equations.groups) k e.place
             (ap (λ (ps : List Place). slice_get ps k) (sym given.places) ∙ at_map (λ (f : Equation). f.place) given.new k e found)
 
-    same_signature : (joined nothing made).signature ≡ made.signature
+    same_signature : (joined_presentation nothing made).signature ≡ made.signature
     same_signature = contributions.alone mentioned fine.signature
 
-    same_equations : (joined nothing made).equations ≡ made.equations
+    same_equations : (joined_presentation nothing made).equations ≡ made.equations
     same_equations = equations_alone made fine places_differ
 
     few : length given.new ≤ presentation_limit
@@ -219,23 +217,24 @@ module _ (data_ : Data) (place : Place) (name : List ℕ) (form : AreDataOfText 
     united : union_fault (without_formals (mentioned ∷ [])) ≡ None
     united =
         ap union_fault alone
-        ∙ both_none (presentation_fault place name (joined nothing made)) None
-        (no_fault place name (joined nothing made)
-        (same_faultless (joined nothing made) made same_signature same_equations (faultless data_ name form given.new few))) refl
+        ∙ none_fails (presentation_fault place name (joined_presentation nothing made)) None
+        (no_fault place name (joined_presentation nothing made)
+        (same_faultless (joined_presentation nothing made) made same_signature same_equations (faultless data_ name form given.new few)))
+        refl
 
-    answered : data_of (union_of (without_formals (mentioned ∷ []))) ≡ data_of made
+    answered : flattened_data_of (union_of (without_formals (mentioned ∷ []))) ≡ flattened_data_of made
     answered =
-        ap (λ (ms : List Mentioned). data_of (union_of ms)) alone
-        ∙ by (joined nothing made).signature (joined nothing made).equations same_signature same_equations
+        ap (λ (ms : List Mentioned). flattened_data_of (union_of ms)) alone
+        ∙ by (joined_presentation nothing made).signature (joined_presentation nothing made).equations same_signature same_equations
       where
         by : (signature : Signature) (equations : List Equation) → signature ≡ made.signature → equations ≡ made.equations
-            → record { signature = signature; equations = equations } ≡ data_of made
+            → record { signature = signature; equations = equations } ≡ flattened_data_of made
         by signature equations e f = cc (e, f)
 
     ordered : IsFlatteningOrder (mention_graph (t ∷ [])) (0 ∷ [])
     ordered = next_come_to [] (0 ∷ []) (0 ∷ []) 0 [] (flattened_now [] [] 0 refl (none_left [])) (none_left (0 ∷ []))
 
-    flattening : IsFlattening (t ∷ []) (data_of made)
+    flattening : IsFlattening (t ∷ []) (flattened_data_of made)
     flattening = record {
       order = 0 ∷ [];
       ordered = ordered;
@@ -245,7 +244,7 @@ module _ (data_ : Data) (place : Place) (name : List ℕ) (form : AreDataOfText 
       answered = answered;
     }
 
-    same : AreDataSpelledAlike data_ (data_of made)
+    same : AreDataSpelledAlike data_ (flattened_data_of made)
     same = record {
       signatures = record {
         sorts = same_sorts name data_.signature.sorts;
@@ -268,12 +267,12 @@ module _ (data_ : Data) (place : Place) (name : List ℕ) (form : AreDataOfText 
       declared_once = refl;
       all_known = refl;
       acyclic = none_mentioned (t ∷ []) nothing_mentioned;
-      there = (data_of made, flattening, same);
+      there = (flattened_data_of made, flattening, same);
       only = λ other is.
           subst (λ (d : Data). AreDataSpelledAlike data_ d)
-          ((flattening_is_decided (t ∷ [])).one_data (data_of made) other flattening is) same;
+          ((flattening_is_decided (t ∷ [])).one_data (flattened_data_of made) other flattening is) same;
       no_name_fault = no_name_fault;
-      no_fault = λ fault is. (flattening_is_decided (t ∷ [])).not_both (data_of made) fault flattening is;
+      no_fault = λ fault is. (flattening_is_decided (t ∷ [])).not_both (flattened_data_of made) fault flattening is;
     }
 
   -- whatever the type is written as
@@ -312,7 +311,7 @@ module _ (data_ : Data) (form : AreDataOfText data_) (none : data_.signature.sor
           let over = form.well_formed.equations e (0, ap (λ (fs : List Equation). slice_get fs 0) is) in
           absurd (no_sort over.sort (sort_within data_.signature e.left over.sort over.left_sort form.well_formed.signature))
 
-  empty : IsFlattening [] (data_of nothing)
+  empty : IsFlattening [] (flattened_data_of nothing)
   empty = record {
     order = [];
     ordered = none_left [];
@@ -322,7 +321,7 @@ module _ (data_ : Data) (form : AreDataOfText data_) (none : data_.signature.sor
     answered = refl;
   }
 
-  same_empty : AreDataSpelledAlike data_ (data_of nothing)
+  same_empty : AreDataSpelledAlike data_ (flattened_data_of nothing)
   same_empty = record {
     signatures = record {
       sorts = subst (λ (ss : List Sort). AreSortsSpelledAlike ss []) (sym none) tt;
@@ -344,12 +343,12 @@ module _ (data_ : Data) (form : AreDataOfText data_) (none : data_.signature.sor
     declared_once = refl;
     all_known = refl;
     acyclic = none_mentioned [] nobody_mentioned;
-    there = (data_of nothing, empty, same_empty);
+    there = (flattened_data_of nothing, empty, same_empty);
     only = λ other is.
-        subst (λ (d : Data). AreDataSpelledAlike data_ d) ((flattening_is_decided []).one_data (data_of nothing) other empty is)
+        subst (λ (d : Data). AreDataSpelledAlike data_ d) ((flattening_is_decided []).one_data (flattened_data_of nothing) other empty is)
         same_empty;
     no_name_fault = no_fault_of_names;
-    no_fault = λ fault is. (flattening_is_decided []).not_both (data_of nothing) fault empty is;
+    no_fault = λ fault is. (flattening_is_decided []).not_both (flattened_data_of nothing) fault empty is;
   }
 
 -- ---- The law

@@ -5,13 +5,13 @@ use Rattle.lotos_base.specs.WrittenTerm.{PlacedName}
 use Rattle.lotos_lexer.specs.declared.tokens.Token.{Token}
 use Rattle.syntax_trees.specs.WrittenBehaviour.{WrittenOffer, offer_variable, WrittenBehaviour}
 use Rattle.syntax_trees.specs.WrittenDefinition.{WrittenInner, inners_of, WrittenSpecification}
-use Rattle.syntax_trees.specs.Strength.{PlacedSign, strength_of, joined}
+use Rattle.syntax_trees.specs.Strength.{PlacedSign, strength_of, joined_by_sign}
 use Rattle.syntax_trees.specs.Grouping.{IsGrouped, alone, split}
 use Rattle.syntax_trees.specs.ReadableTrees.{AllAre}
 use Rattle.lotos_rows.proofs.ReadableTexts.{specification_readable}
 use Rattle.lotos_rows.specs.Words.{Separated, last, before_more}
 use Rattle.lotos_rows.specs.Names.{variables_of_sort}
-use Rattle.lotos_rows.specs.Behaviours.{IsWrittenOffer, giving, asking, before_first, AreOperands, hiding, letting, choosing_values, choosing_gates, parallel_over_gates, inner_prefix, guarding, acting, offering, last_operand, before_sign, IsAtom, stopping, exiting, calling, in_brackets, IsBehaviour, grouped_operands}
+use Rattle.lotos_rows.specs.Behaviours.{IsWrittenOffer, giving, asking, before_first, AreOperands, hiding, letting, choosing_values, choosing_gates, parallel_over_gates, inner_prefix, guarding, acting, offering, last_operand, before_sign, IsAtom, stopping, exiting, calling, in_brackets, IsBehaviourText, grouped_operands}
 use Rattle.lotos_rows.specs.Definitions.{IsProcess, a_process, IsWhere, no_where, a_where, AreInner, no_more_inner, item_then, process_then}
 use Rattle.lotos_rows.specs.Starts.{IsWrittenSpecification, a_specification}
 use Rattle.flat_sentences.specs.FullLists.{HasFullLists, InnerHasFullLists, InnersHaveFullLists, ReadTextsHaveTextLists}
@@ -53,7 +53,7 @@ lists_second [] second all = all
 lists_second (b ∷ first) second all = lists_second first second all.1
 
 grouped_full : {operands : List WrittenBehaviour} {signs : List PlacedSign} {behaviour : WrittenBehaviour}
-    → IsGrouped strength_of joined operands signs behaviour → AllAre HasFullLists operands → HasFullLists behaviour
+    → IsGrouped strength_of joined_by_sign operands signs behaviour → AllAre HasFullLists operands → HasFullLists behaviour
 grouped_full alone all = all.0
 grouped_full (split {operands = operands} {others = others} before after left right) all =
     (grouped_full left (lists_first operands others all), grouped_full right (lists_second operands others all))
@@ -88,7 +88,7 @@ mutual
   atom_full (calling name gates values) = tt
   atom_full (in_brackets left inside right) = behaviour_full inside
 
-  behaviour_full : {text : List ℕ} {tokens : List Token} {behaviour : WrittenBehaviour} → IsBehaviour text tokens behaviour
+  behaviour_full : {text : List ℕ} {tokens : List Token} {behaviour : WrittenBehaviour} → IsBehaviourText text tokens behaviour
       → HasFullLists behaviour
   behaviour_full (grouped_operands operands grouped) = grouped_full grouped (operands_full operands)
 

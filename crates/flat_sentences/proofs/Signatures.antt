@@ -2,8 +2,8 @@
 use Rattle.std.proofs.Common.{◌≡◌, inl, inr, ℕ, zero, suc, Bool, true, false, List, [], ◌∷◌, map, refl, ap, sym, ◌∙◌, subst, arith}
 use Rattle.std.specs.Prelude.{Some, slice_get, if◌then◌else◌}
 use Rattle.std.specs.List.{list_any}
-use Rattle.std.proofs.lemmas.Bool.{or_left, or_right}
 use Rattle.std.proofs.lemmas.Option.{none-some, same_Some}
+use Rattle.std.proofs.lemmas.Map.Keys.{any_passes_from_place}
 use Rattle.lotos_base.proofs.Numbers.{suc-injective}
 use Rattle.lotos_base.proofs.Bytes.{same_bytes, bytes_same}
 use Rattle.lotos_base.proofs.Members.{member_at, at_map, from_map}
@@ -46,12 +46,6 @@ only_position {A = A} test (z ∷ zs) (suc i) x at is only =
     by true first rest = let clash : suc i ≡ 0 = only 0 z refl first in absurd (omega (arith, clash))
     by false first rest = ap suc rest
 
-pub some_passes : {A : Type 0} (test : A → Bool) (xs : List A) (i : ℕ) (x : A) → slice_get xs i ≡ Some x → test x ≡ true
-    → list_any test xs ≡ true
-some_passes test [] i x at is = absurd (none-some x at)
-some_passes test (z ∷ zs) zero x at is = or_left (test z) (list_any test zs) (ap test (same_Some z x at) ∙ is)
-some_passes test (z ∷ zs) (suc i) x at is = or_right (test z) (list_any test zs) (some_passes test zs i x at is)
-
 -- ---- Sorts by their names
 
 -- among these sorts the text of a sort stands for its number
@@ -75,7 +69,7 @@ known_sort origin signature fine sort within =
           ap folded (sym named) ∙ sym alike ∙ ap (λ (t : Sort). folded t.name) (sym before.2) in
           fine.sort_names sort j s.0 before.0 s.1 before.1 same);
       there =
-          some_passes (λ (t : Sort). one_name t.name (sort_text signature sort)) (map (own_sort origin) signature.sorts) sort
+          any_passes_from_place (λ (t : Sort). one_name t.name (sort_text signature sort)) (map (own_sort origin) signature.sorts) sort
           (own_sort origin s.0) at passes;
     }
 

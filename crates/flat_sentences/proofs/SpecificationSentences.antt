@@ -7,7 +7,7 @@ use Rattle.lotos_lexer.specs.declared.tokens.Token.{Token}
 use Rattle.lotos_lexer.specs.declared.kinds.TheConstants.{COMMA, COLON, NOEXIT, EXIT, WHERE, PROCESS, DEFINITION, ENDPROC, SPECIFICATION, BEHAVIOUR, ENDSPEC}
 use Rattle.lotos_rows.specs.Words.{Optional, left_out, there, Separated}
 use Rattle.lotos_rows.specs.Names.{place_of, named, spelled, IsName, a_name, AreParameters, AreVariables}
-use Rattle.lotos_rows.specs.Behaviours.{IsBehaviour}
+use Rattle.lotos_rows.specs.Behaviours.{IsBehaviourText}
 use Rattle.lotos_rows.specs.Definitions.{IsWrittenFunctionality, no_exit, exit_of, IsHeading, heading, IsProcess, a_process, IsWhere, no_where, a_where, AreInner, no_more_inner, process_then}
 use Rattle.lotos_rows.specs.Starts.{AreItems, british, IsWrittenSpecification, a_specification}
 use Rattle.syntax_trees.specs.WrittenItem.{WrittenItem}
@@ -24,7 +24,7 @@ use Rattle.flat_sentences.specs.WrittenSpecifications.{IsSortWritten, IsFunction
 use Rattle.flat_sentences.proofs.DefinitionsMeant.{inside_of, DefinitionMeans, behind_definition, ProcessesMean, SpecificationMeans}
 use Rattle.flat_sentences.proofs.FlatResolved.{flat_means, flat_texts_stand_for_the_same}
 use Rattle.flat_sentences.specs.PrintedWords.{Word, AreWords, a_word, name_word, gate_word, commas_words, round_words, declared_words, declarations_words, round_list_words, square_list_words, behaviour_words}
-use Rattle.flat_sentences.specs.WordLaws.{HasBinaryInfixes, HasTextForm, IsSentence}
+use Rattle.flat_sentences.specs.WordLaws.{HasBinaryInfixes, HasTextForm, IsFittingSentence}
 use Rattle.flat_sentences.specs.FlatWords.{functionality_words, heading_words, process_words, processes_words, where_words, specification_words, HaveTextForms}
 use Rattle.flat_sentences.specs.FlatWordLaws.{FlatWordsAreReadAsTheSame}
 use Rattle.flat_sentences.proofs.WordParts.{first_of, parts_of, one_of, no_words, of_kind, Says, round_says}
@@ -40,7 +40,7 @@ module _ (text : List ℕ) (naming : Naming) (well : IsWellFormedSignature namin
   sort_says sort tokens are =
       let word : Word = name_word (sort_text naming.signature sort) in
       let one = one_of text tokens word are in
-      subst (IsSentence (IsName text) (IsSortWritten naming.signature sort)) (sym one.alone) (record {
+      subst (IsFittingSentence (IsName text) (IsSortWritten naming.signature sort)) (sym one.alone) (record {
         thing = named text one.token;
         is_one = a_name (of_kind text word one.token one.is_word);
         fitting = one.is_word.spelling_is;
@@ -56,12 +56,12 @@ module _ (text : List ℕ) (naming : Naming) (well : IsWellFormedSignature namin
   functionality_says None tokens are =
       let word : Word = a_word NOEXIT (codes "noexit") in
       let one = one_of text tokens word are in
-      subst (IsSentence (IsWrittenFunctionality text) (IsFunctionalityWritten naming.signature None)) (sym one.alone)
+      subst (IsFittingSentence (IsWrittenFunctionality text) (IsFunctionalityWritten naming.signature None)) (sym one.alone)
       (record { thing = None; is_one = no_exit (of_kind text word one.token one.is_word); fitting = tt })
   functionality_says (Some []) tokens are =
       let word : Word = a_word EXIT (codes "exit") in
       let one = one_of text tokens word are in
-      subst (IsSentence (IsWrittenFunctionality text) (IsFunctionalityWritten naming.signature (Some []))) (sym one.alone)
+      subst (IsFittingSentence (IsWrittenFunctionality text) (IsFunctionalityWritten naming.signature (Some []))) (sym one.alone)
       (record { thing = Some []; is_one = exit_of (of_kind text word one.token one.is_word) left_out; fitting = tt })
   functionality_says (Some (sort ∷ sorts)) tokens are =
       let word : Word = a_word EXIT (codes "exit") in
@@ -71,7 +71,7 @@ module _ (text : List ℕ) (naming : Naming) (well : IsWellFormedSignature namin
       round_says text listed (Separated COMMA (IsName text)) (Correspond (IsSortWritten naming.signature) (sort ∷ sorts))
       (separated_say text naming well binary (λ (s : ℕ). name_word (sort_text naming.signature s) ∷ []) (IsName text)
       (IsSortWritten naming.signature) sort sorts (each_sort (sort ∷ sorts))) begin.rest begin.are_words in
-      subst (IsSentence (IsWrittenFunctionality text) (IsFunctionalityWritten naming.signature (Some (sort ∷ sorts))))
+      subst (IsFittingSentence (IsWrittenFunctionality text) (IsFunctionalityWritten naming.signature (Some (sort ∷ sorts))))
       (sym begin.joined) (record {
         thing = Some inside.thing;
         is_one = exit_of (of_kind text word begin.first begin.is_word) (there inside.is_one);
@@ -82,7 +82,7 @@ module _ (text : List ℕ) (naming : Naming) (well : IsWellFormedSignature namin
       → Says text (round_list_words (map (declared_words naming) xs)) (Optional [] (AreParameters text))
       (Correspond (IsVariableWritten naming.signature) xs)
   parameters_say [] tokens are =
-      subst (IsSentence (Optional [] (AreParameters text)) (Correspond (IsVariableWritten naming.signature) []))
+      subst (IsFittingSentence (Optional [] (AreParameters text)) (Correspond (IsVariableWritten naming.signature) []))
       (sym (no_words text tokens are)) (record { thing = []; is_one = left_out; fitting = tt })
   parameters_say (x ∷ xs) tokens are =
       let inside =
@@ -110,7 +110,7 @@ module _ (text : List ℕ) (naming : Naming) (well : IsWellFormedSignature namin
       let gates = bracketed_gates_say text naming well binary p.gates parts.left parts.left_are in
       let parameters = parameters_say p.parameters behind.left behind.left_are in
       let exit = functionality_says p.exit sign.rest sign.are_words in
-      subst (IsSentence (IsHeading text) (IsHeadingWritten name p))
+      subst (IsFittingSentence (IsHeading text) (IsHeadingWritten name p))
       (sym (begin.joined ∙ ap (λ (ts : List Token). begin.first ∷ ts)
       (parts.joined ∙ ap (λ (ts : List Token). parts.left ++ ts)
       (behind.joined ∙ ap (λ (ts : List Token). behind.left ++ ts) sign.joined)))) (record {
@@ -143,7 +143,7 @@ module _ (text : List ℕ) (naming : Naming) (well : IsWellFormedSignature namin
 
   module _ (all : List Process) where
     body_says : (numbers : Numbers) (p : Process) → DefinitionMeans naming all numbers p → HasTextForm p.body
-        → Says text (behaviour_words naming p.parameters p.body) (IsBehaviour text) (IsBehaviourWritten naming p.parameters p.body)
+        → Says text (behaviour_words naming p.parameters p.body) (IsBehaviourText text) (IsBehaviourWritten naming p.parameters p.body)
     body_says numbers p means form = whole_of_words text naming well binary all p.body (inside_of naming numbers p) form means.body
 
     -- ---- Processes
@@ -171,7 +171,7 @@ module _ (text : List ℕ) (naming : Naming) (well : IsWellFormedSignature namin
         let end = one_of text behind.right end_ behind.right_are in
         let h = heading_says name p parts.left parts.left_are in
         let b = body_says numbers p means form behind.left behind.left_are in
-        subst (IsSentence (IsProcess text) (IsProcessWritten name p))
+        subst (IsFittingSentence (IsProcess text) (IsProcessWritten name p))
         (sym (begin.joined ∙ ap (λ (ts : List Token). begin.first ∷ ts)
         (parts.joined ∙ ap (λ (ts : List Token). parts.left ++ ts)
         (sign.joined ∙ ap (λ (ts : List Token). sign.first ∷ ts)
@@ -202,7 +202,7 @@ module _ (text : List ℕ) (naming : Naming) (well : IsWellFormedSignature namin
         → Says text (processes_words naming next ps) (AreInner text)
         (λ (ws : List WrittenInner). AreProcessesWritten naming next ps (inners_of ws))
     processes_say next numbers [] means forms tokens are =
-        subst (IsSentence (AreInner text) (λ (ws : List WrittenInner). AreProcessesWritten naming next [] (inners_of ws)))
+        subst (IsFittingSentence (AreInner text) (λ (ws : List WrittenInner). AreProcessesWritten naming next [] (inners_of ws)))
         (sym (no_words text tokens are)) (record { thing = []; is_one = no_more_inner; fitting = tt })
     processes_say next numbers (p ∷ ps) means forms tokens are =
         let first_ : List Word = process_words naming (called_text naming next) p in
@@ -210,7 +210,7 @@ module _ (text : List ℕ) (naming : Naming) (well : IsWellFormedSignature namin
         let first = process_says (called_text naming next) (past_name numbers) p means.0 forms.0 parts.left parts.left_are in
         let rest =
         processes_say (suc next) (behind_definition p (past_name numbers)) ps means.1 forms.1 parts.right parts.right_are in
-        subst (IsSentence (AreInner text) (λ (ws : List WrittenInner). AreProcessesWritten naming next (p ∷ ps) (inners_of ws)))
+        subst (IsFittingSentence (AreInner text) (λ (ws : List WrittenInner). AreProcessesWritten naming next (p ∷ ps) (inners_of ws)))
         (sym parts.joined) (record {
           thing = first.thing ∷ rest.thing;
           is_one = process_then first.is_one rest.is_one;
@@ -221,13 +221,13 @@ module _ (text : List ℕ) (naming : Naming) (well : IsWellFormedSignature namin
         → Every (λ (p : Process). HasTextForm p.body) ps
         → Says text (where_words naming ps) (IsWhere text) (λ (ws : List WrittenInner). AreProcessesWritten naming 0 ps (inners_of ws))
     where_says numbers [] means forms tokens are =
-        subst (IsSentence (IsWhere text) (λ (ws : List WrittenInner). AreProcessesWritten naming 0 [] (inners_of ws)))
+        subst (IsFittingSentence (IsWhere text) (λ (ws : List WrittenInner). AreProcessesWritten naming 0 [] (inners_of ws)))
         (sym (no_words text tokens are)) (record { thing = []; is_one = no_where; fitting = tt })
     where_says numbers (p ∷ ps) means forms tokens are =
         let word : Word = a_word WHERE (codes "where") in
         let begin = first_of text tokens word (processes_words naming 0 (p ∷ ps)) are in
         let inner = processes_say 0 numbers (p ∷ ps) means forms begin.rest begin.are_words in
-        subst (IsSentence (IsWhere text) (λ (ws : List WrittenInner). AreProcessesWritten naming 0 (p ∷ ps) (inners_of ws)))
+        subst (IsFittingSentence (IsWhere text) (λ (ws : List WrittenInner). AreProcessesWritten naming 0 (p ∷ ps) (inners_of ws)))
         (sym begin.joined) (record {
           thing = inner.thing;
           is_one = a_where (of_kind text word begin.first begin.is_word) inner.is_one;
@@ -248,7 +248,7 @@ module _ (text : List ℕ) (naming : Naming) (well : IsWellFormedSignature namin
   pub specification_says : (specification : Specification) (types : List Word) (fits : List WrittenItem → Type 0)
       → SpecificationMeans naming specification
       → HaveTextForms specification
-      → ((some : List Token) → AreWords text some types → IsSentence (AreItems text) fits some)
+      → ((some : List Token) → AreWords text some types → IsFittingSentence (AreItems text) fits some)
       → Says text (specification_words naming types specification) (IsWrittenSpecification text) (IsWritten specification types fits)
   specification_says specification types fits means forms says tokens are =
       let word : Word = a_word SPECIFICATION (codes "specification") in
@@ -271,7 +271,7 @@ module _ (text : List ℕ) (naming : Naming) (well : IsWellFormedSignature namin
       let inner =
       where_says specification.processes (behind_definition (whole_of specification) first_numbers) specification.processes
       means.processes_mean forms.processes last.left last.left_are in
-      subst (IsSentence (IsWrittenSpecification text) (IsWritten specification types fits))
+      subst (IsFittingSentence (IsWrittenSpecification text) (IsWritten specification types fits))
       (sym (begin.joined ∙ ap (λ (ts : List Token). begin.first ∷ ts)
       (parts.joined ∙ ap (λ (ts : List Token). parts.left ++ ts)
       (behind.joined ∙ ap (λ (ts : List Token). behind.left ++ ts)

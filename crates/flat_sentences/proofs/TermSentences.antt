@@ -22,7 +22,7 @@ use Rattle.specification_laws.specs.WrittenAs.{IsWrittenAs, AreWrittenAs}
 use Rattle.specification_laws.specs.TermMeanings.{TermMeans, TermsMean}
 use Rattle.specification_laws.proofs.PrintedTerms.{IsUnmarked, unmarked_is, marked_is, OneOf}
 use Rattle.flat_sentences.specs.PrintedWords.{Word, IsWord, WordPhrase, a_word, name_word, operation_word, round_words, commas_words, phrase_words, bracketed_words, operand_words, sort_words, arguments_words, prefix_words, between_words, infix_words, application_words, node_words, words_of_term, words_of_terms}
-use Rattle.flat_sentences.specs.WordLaws.{HasBinaryInfixes, IsSentence, TermWordsAreSentences}
+use Rattle.flat_sentences.specs.WordLaws.{HasBinaryInfixes, IsFittingSentence, TermWordsAreSentences}
 use Rattle.flat_sentences.proofs.WordParts.{first_of, parts_of, one_of, no_words, of_kind, Says, round_says}
 
 -- two arguments
@@ -80,7 +80,7 @@ module _ (text : List ℕ) where
         go tokens inside.thing inside.is_one inside.fitting
       where
         go : (ts : List Token) (w : WrittenTerm) → Between LEFT_PARENTHESIS RIGHT_PARENTHESIS (IsTerm text) ts w → fits w
-            → IsSentence (IsBase text) fits ts
+            → IsFittingSentence (IsBase text) fits ts
         go ts w (between left term right) fit = record { thing = w; is_one = bracketed left term right; fitting = fit }
 
     operand_says : (t : Term) (words : List Word) (is_infix : Bool)
@@ -113,7 +113,7 @@ module _ (text : List ℕ) where
         let term = phrase_says_term t (words_of_term signature names t) all.0 parts.left parts.left_are in
         let rest = list_says u us all.1 comma.rest comma.are_words in
         subst
-        (IsSentence (AreTerms text) (λ (ws : List WrittenTerm). AreWrittenAs signature names (term_then t (term_then u us))
+        (IsFittingSentence (AreTerms text) (λ (ws : List WrittenTerm). AreWrittenAs signature names (term_then t (term_then u us))
         (written_terms ws)))
         (sym (parts.joined ∙ ap (λ (ts : List Token). parts.left ++ ts) comma.joined)) (record {
           thing = term.thing ∷ rest.thing;
@@ -128,7 +128,7 @@ module _ (text : List ℕ) where
         (IsUnmarked signature names operation ts)
     applied_says operation no_terms form all tokens are =
         let one = one_of text tokens (operation_word operation.name) are in
-        subst (IsSentence (IsBase text) (IsUnmarked signature names operation no_terms)) (sym one.alone) (record {
+        subst (IsFittingSentence (IsBase text) (IsUnmarked signature names operation no_terms)) (sym one.alone) (record {
           thing = applied (named text one.token) [];
           is_one = without_arguments (operation_named operation.name one.token one.is_word);
           fitting = record {
@@ -153,7 +153,7 @@ module _ (text : List ℕ) where
         round_says text listed (AreTerms text)
         (λ (ws : List WrittenTerm). AreWrittenAs signature names (term_then t ts) (written_terms ws)) (list_says t ts all) begin.rest
         begin.are_words in
-        subst (IsSentence (IsBase text) (IsUnmarked signature names operation (term_then t ts))) (sym begin.joined)
+        subst (IsFittingSentence (IsBase text) (IsUnmarked signature names operation (term_then t ts))) (sym begin.joined)
         (go begin.first begin.rest inside.thing (operation_named operation.name begin.first begin.is_word) begin.is_word.spelling_is
         inside.is_one inside.fitting)
       where
@@ -161,7 +161,7 @@ module _ (text : List ℕ) where
             → (named text token).name ≡ operation.name
             → Between LEFT_PARENTHESIS RIGHT_PARENTHESIS (AreTerms text) us ws
             → AreWrittenAs signature names (term_then t ts) (written_terms ws)
-            → IsSentence (IsBase text) (IsUnmarked signature names operation (term_then t ts)) (token ∷ us)
+            → IsFittingSentence (IsBase text) (IsUnmarked signature names operation (term_then t ts)) (token ∷ us)
         go token us ws name spelled (between left terms right) each = record {
           thing = applied (named text token) ws;
           is_one = with_arguments name left terms right;
@@ -191,7 +191,8 @@ module _ (text : List ℕ) where
         let whole : tokens ≡ parts.left ++ (sign.first ∷ []) ++ sign.rest =
         parts.joined ∙ ap (λ (ts : List Token). parts.left ++ ts) sign.joined
         ∙ sym (append_assoc parts.left (sign.first ∷ []) sign.rest) in
-        subst (IsSentence (IsTerm text) (IsUnmarked signature names operation (term_then t (term_then u no_terms)))) (sym whole) (record {
+        subst (IsFittingSentence (IsTerm text) (IsUnmarked signature names operation (term_then t (term_then u no_terms))))
+        (sym whole) (record {
           thing = infix_term name l.thing r.thing;
           is_one =
               grouped_factors
@@ -224,7 +225,7 @@ module _ (text : List ℕ) where
           let whole : tokens ≡ parts.left ++ of_.first ∷ sort_.token ∷ [] =
           parts.joined ∙ ap (λ (ts : List Token). parts.left ++ ts)
           (of_.joined ∙ ap (λ (ts : List Token). of_.first ∷ ts) sort_.alone) in
-          subst (IsSentence (IsFactor text) (IsWrittenAs signature names (node f ts))) (sym whole) (record {
+          subst (IsFittingSentence (IsFactor text) (IsWrittenAs signature names (node f ts))) (sym whole) (record {
             thing = of_sort (named text sort_.token) base.thing;
             is_one = with_sort base.is_one (of_kind text of_word of_.first of_.is_word) (of_kind text sort_word sort_.token sort_.is_word);
             fitting =
@@ -243,7 +244,7 @@ module _ (text : List ℕ) where
       unsorted ts words one twin says tokens are =
           let parts = parts_of text tokens words [] are in
           let inside = says parts.left parts.left_are in
-          subst (IsSentence one (IsWrittenAs signature names (node f ts)))
+          subst (IsFittingSentence one (IsWrittenAs signature names (node f ts)))
           (sym (parts.joined ∙ ap (λ (ts : List Token). parts.left ++ ts) (no_words text parts.right parts.right_are)
           ∙ append-nil parts.left)) (record {
             thing = inside.thing;
@@ -323,7 +324,7 @@ module _ (text : List ℕ) where
             → PhraseSays t (words_of_term signature names t)
         term_says (variable n s) sort means = λ tokens are.
             let one = one_of text tokens (name_word (variable_text names n)) are in
-            subst (IsSentence (IsFactor text) (IsWrittenAs signature names (variable n s))) (sym one.alone) (record {
+            subst (IsFittingSentence (IsFactor text) (IsWrittenAs signature names (variable n s))) (sym one.alone) (record {
               thing = applied (named text one.token) [];
               is_one = without_sort (without_arguments (word_name
                   (of_kind text (name_word (variable_text names n)) one.token one.is_word)));

@@ -12,7 +12,7 @@ use Rattle.printed_texts.specs.TermText.{Phrase, sort_name, sort_text, variable_
 use Rattle.specification_laws.specs.TextNames.{IsWordSpelling, HasTextNames}
 use Rattle.specification_laws.proofs.PartsOfText.{apart, nothing_apart}
 use Rattle.flat_sentences.specs.PrintedWords.{Word, WordPhrase, a_word, name_word, operation_word, commas_words, phrase_words, bracketed_words, operand_words, sort_words, arguments_words, prefix_words, between_words, infix_words, application_words, node_words, words_of_term, words_of_terms, term_words}
-use Rattle.flat_sentences.specs.TextPieces.{bytes_of}
+use Rattle.flat_sentences.specs.TextPieces.{bytes_of_pieces}
 use Rattle.flat_sentences.specs.PieceLaws.{IsCutInto}
 use Rattle.flat_sentences.specs.TermTextLaws.{HasNamedVariables, HaveNamedVariables, TermTextsAreWords}
 use Rattle.flat_sentences.specs.CutTexts.{AreCut}
@@ -189,7 +189,7 @@ module _ (signature : Signature) (well : IsWellFormedSignature signature) (spell
 pub whole_cut : (number : ℕ) (bytes : List ℕ) (words : List Word) → Extends bytes words → IsCutInto number bytes words
 whole_cut number bytes words extends =
     subst (λ (bs : List ℕ). IsCutInto number bs words) (cut.bytes_are ∙ append-nil bytes)
-    (subst (λ (ws : List Word). IsCutInto number (bytes_of cut.pieces) ws) (cut.words_are ∙ append-nil words)
+    (subst (λ (ws : List Word). IsCutInto number (bytes_of_pieces cut.pieces) ws) (cut.words_are ∙ append-nil words)
     (texts_in_pieces_are_cut number cut.pieces cut.tokens))
   where
     cut : AreCut false (bytes ++ []) (words ++ [])

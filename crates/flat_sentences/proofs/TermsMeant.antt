@@ -4,21 +4,22 @@ use Rattle.std.proofs.lemmas.Bool.{and_parts, eqb-true, eq-eqb}
 use Rattle.std.proofs.lemmas.Option.{none-some, same_Some}
 use Rattle.std.specs.Prelude.{Option, None, Some, slice_get, if◌then◌else◌, option_map, codes}
 use Rattle.lotos_base.specs.Signature.{Signature, Operation, prefix_form}
-use Rattle.lotos_base.specs.Equation.{Place, Variable}
-use Rattle.lotos_base.specs.Term.{Term, variable, node, no_terms, term_then, terms_of}
+use Rattle.lotos_base.specs.Equation.{Variable}
+use Rattle.lotos_base.specs.Term.{Term, variable, node, no_terms, term_then, argument_list_of}
 use Rattle.lotos_base.specs.Twins.{form_eq}
 use Rattle.lotos_base.specs.WrittenTerm.{PlacedName, WrittenTerm}
 use Rattle.syntax_trees.specs.WrittenVariable.{WrittenVariable}
 use Rattle.syntax_trees.specs.WrittenEquation.{WrittenPremiss}
 use Rattle.syntax_trees.specs.WrittenBehaviour.{WrittenExitValue, exit_term, exit_any, WrittenOffer, offer_value, offer_variable}
-use Rattle.sort_terms.specs.ReadingOutcome.{ReadingRefusal, answered, ComesTo, IsExpected, one_name}
+use Rattle.sort_terms.specs.ReadingOutcome.{IsExpected, one_name}
 use Rattle.behaviour_semantics.specs.Behaviour.{Test, Offer, ExitValue, asked_variables, sorts_of, let_variables}
 use Rattle.behaviour_semantics.specs.WellFormed.{Every}
+use Rattle.sort_terms.proofs.OutcomeLemmas.{is_reading}
 use Rattle.specification_laws.specs.HandedOn.{Naming, is_constant}
 use Rattle.scope_parts.specs.ScopeFault.{no_bool}
 use Rattle.scope_parts.specs.Resolution.{Resolution, resolved}
 use Rattle.scope_parts.specs.Scope.{first_double}
-use Rattle.scope_parts.specs.Numbering.{spelled, asked_for}
+use Rattle.scope_parts.specs.Numbering.{spelled_names, asked_for}
 use Rattle.scope_parts.specs.Sorts.{Truth, is_true, true_from, true_of, truth_in, sort_named, placed_variables}
 use Rattle.scope_parts.specs.Terms.{TermIs, PairIs, TrueTermIs, PremissIs, TestIs, TestOptionIs, ExitValuesAre, ValuesAre, BindingsAre, LetIs, OffersFollow, OffersAre, let_names}
 use Rattle.scope_parts.proofs.FormedLists.{same_resolved, never_faulty, beside_of}
@@ -27,12 +28,6 @@ use Rattle.flat_sentences.specs.Meanings.{AreDeclaredVariables, PrintedScope, Va
 use Rattle.flat_sentences.specs.MeaningLaws.{LeavesOutTruth, FitsNaming}
 use Rattle.specification_laws.proofs.TermMeanings.{term_means}
 use Rattle.flat_sentences.proofs.PartsMeant.{no_double_beside, sort_meant, variable_meant, AreMeant, one_more, declared_meant, looked_up}
-
--- an answer to a question about a text
-answer_of : {A : Type 0} (unknown : List ReadingRefusal) (place : Place) (P : A → Type 0) (x : A) → ComesTo unknown place P (answered x)
-    → P x
-answer_of [] place P x is = is.is_answer
-answer_of (r ∷ rs) place P x is = absurd is
 
 -- ---- The constant `true`
 
@@ -112,7 +107,7 @@ module _ (naming : Naming) (scope : PrintedScope) (leaves : LeavesOutTruth namin
   term_meant : (w : WrittenTerm) (expected : Option ℕ) (t : Term) → TermIs naming.signature scope.variables w expected (resolved t)
       → IsTermMeant expected t
   term_meant w expected t is =
-      let reads = answer_of _ _ _ is.0 is.1 in
+      let reads = is_reading _ _ _ is.0 is.1 in
       subst (IsTermMeant expected) (sym is.2) (record {
         sort = is.0.sort;
         means =
@@ -144,9 +139,10 @@ module _ (naming : Naming) (scope : PrintedScope) (leaves : LeavesOutTruth namin
   pub values_meant : (parameters : List Variable) (ws : List WrittenTerm) (ts : List Term)
       → length ws ≡ length (map (λ (x : Variable). Some x.sort) parameters)
       → ValuesAre naming.signature scope.variables (map (λ (x : Variable). Some x.sort) parameters) ws (resolved ts)
-      → TermsMean naming.signature scope.variables scope.names (terms_of ts) (sorts_of parameters)
+      → TermsMean naming.signature scope.variables scope.names (argument_list_of ts) (sorts_of parameters)
   values_meant [] ws ts many is =
-      subst (λ (us : List Term). TermsMean naming.signature scope.variables scope.names (terms_of us) []) (sym (same_resolved ts [] is)) tt
+      subst (λ (us : List Term). TermsMean naming.signature scope.variables scope.names (argument_list_of us) [])
+      (sym (same_resolved ts [] is)) tt
   values_meant (x ∷ parameters) [] ts many is = absurd (omega (arith, many))
   values_meant (x ∷ parameters) (w ∷ ws) [] many is = absurd is.2
   values_meant (x ∷ parameters) (w ∷ ws) (t ∷ ts) many is = (
@@ -201,7 +197,7 @@ module _ (naming : Naming) (scope : PrintedScope) (leaves : LeavesOutTruth namin
   pair_meant : (left right : WrittenTerm) (test : Test) → PairIs naming.signature scope.variables left right (resolved test)
       → TestMeans naming scope test
   pair_meant left right test is =
-      let reads = answer_of _ _ _ is.0 is.1 in
+      let reads = is_reading _ _ _ is.0 is.1 in
       let looked = looked_up naming scope fits in
       let there : ValueMeans naming scope is.0.right is.0.sort =
       term_means naming.signature scope.variables scope.names right is.0.right is.0.sort looked reads.1 in
@@ -230,7 +226,7 @@ module _ (naming : Naming) (scope : PrintedScope) (leaves : LeavesOutTruth namin
 
   record AreOffersMeant (next : ℕ) (ws : List WrittenOffer) (offers : List Offer) : Type 0 where
     values : Every (OfferMeans naming scope) offers
-    asked : AreMeant naming.signature next (spelled (placed_variables (asked_for ws))) (asked_variables offers)
+    asked : AreMeant naming.signature next (spelled_names (placed_variables (asked_for ws))) (asked_variables offers)
     counted : length (asked_variables offers) ≡ length (asked_for ws)
 
   offers_follow_meant : (next : ℕ) (ws : List WrittenOffer) (offers : List Offer)
@@ -250,7 +246,7 @@ module _ (naming : Naming) (scope : PrintedScope) (leaves : LeavesOutTruth namin
       subst (λ (o : Offer). AreOffersMeant next (offer_variable w ∷ ws) (o ∷ offers)) (sym (is.2.0 ∙ is.1.2)) (record {
         values = (tt, rest.values);
         asked =
-            one_more naming.signature next w.name (spelled (placed_variables (asked_for ws))) is.1.0 (asked_variables offers)
+            one_more naming.signature next w.name (spelled_names (placed_variables (asked_for ws))) is.1.0 (asked_variables offers)
             (variable_meant naming.signature next w is.1.0 is.1.1) rest.asked;
         counted = ap suc rest.counted;
       })
@@ -281,7 +277,7 @@ module _ (naming : Naming) (scope : PrintedScope) (leaves : LeavesOutTruth namin
 
   record AreBindingsMeant (next : ℕ) (ws : List (WrittenVariable × WrittenTerm)) (bindings : List (Variable × Term)) : Type 0 where
     values : Every (λ (bound : Variable × Term). ValueMeans naming scope bound.1 bound.0.sort) bindings
-    bound : AreMeant naming.signature next (spelled (placed_variables (let_names ws))) (let_variables bindings)
+    bound : AreMeant naming.signature next (spelled_names (placed_variables (let_names ws))) (let_variables bindings)
     counted : length (let_variables bindings) ≡ length ws
 
   bindings_meant : (next : ℕ) (ws : List (WrittenVariable × WrittenTerm)) (bindings : List (Variable × Term))
@@ -298,7 +294,7 @@ module _ (naming : Naming) (scope : PrintedScope) (leaves : LeavesOutTruth namin
       subst (λ (c : Variable × Term). AreBindingsMeant next (w ∷ ws) (c ∷ bindings)) (sym same) (record {
         values = (term_at w.1 x.sort t is.1.2.1, rest.values);
         bound =
-            one_more naming.signature next w.0.name (spelled (placed_variables (let_names ws))) x (let_variables bindings)
+            one_more naming.signature next w.0.name (spelled_names (placed_variables (let_names ws))) x (let_variables bindings)
             (variable_meant naming.signature next w.0 x is.1.1) rest.bound;
         counted = ap suc rest.counted;
       })

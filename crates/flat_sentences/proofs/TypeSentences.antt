@@ -16,7 +16,7 @@ use Rattle.printed_texts.specs.TermText.{sort_text}
 use Rattle.flat_sentences.specs.WrittenBehaviours.{Correspond}
 use Rattle.flat_sentences.specs.WrittenSpecifications.{IsSortWritten}
 use Rattle.flat_sentences.specs.PrintedWords.{Word, AreWords, a_word, name_word, operation_word}
-use Rattle.flat_sentences.specs.WordLaws.{HasBinaryInfixes, IsSentence}
+use Rattle.flat_sentences.specs.WordLaws.{HasBinaryInfixes, IsFittingSentence}
 use Rattle.flat_sentences.specs.TypeWords.{sort_list_words, operator_words, argument_words, profile_words, operation_line_words, operations_words, data_naming, equations_words, sections_words, type_words_over}
 use Rattle.flat_sentences.specs.TypeWordLaws.{TypeWordsAreItems}
 use Rattle.flat_sentences.specs.WrittenData.{IsSortDeclared, IsOperationWritten, AreSectionsWritten, AreItemsWritten}
@@ -25,12 +25,7 @@ use Rattle.flat_sentences.proofs.WordParts.{first_of, parts_of, one_of, no_words
 use Rattle.flat_sentences.proofs.TermSentences.{operation_named}
 use Rattle.flat_sentences.proofs.PartSentences.{IsSingle, separated_say}
 use Rattle.flat_sentences.proofs.EquationSentences.{IsFlatEquation, equations_say}
-use Rattle.flat_sentences.proofs.TypeTexts.{each_by_position}
-
--- what holds always holds of each
-each_of : {X : Type 0} (P : X → Type 0) → ((x : X) → P x) → (xs : List X) → Every P xs
-each_of P all [] = tt
-each_of P all (x ∷ xs) = (all x, each_of P all xs)
+use Rattle.behaviour_semantics.proofs.EveryLemmas.{every_from, every_all}
 
 -- things between commas are things with or without commas
 loosely : {A : Type 0} {separator : ℕ} {one : List Token → A → Type 0} {tokens : List Token} {values : List A}
@@ -42,7 +37,7 @@ module _ (text : List ℕ) where
   name_says : (name : List ℕ) → Says text (name_word name ∷ []) (IsName text) (λ (w : PlacedName). w.name ≡ name)
   name_says name tokens are =
       let one = one_of text tokens (name_word name) are in
-      subst (IsSentence (IsName text) (λ (w : PlacedName). w.name ≡ name)) (sym one.alone) (record {
+      subst (IsFittingSentence (IsName text) (λ (w : PlacedName). w.name ≡ name)) (sym one.alone) (record {
         thing = named text one.token;
         is_one = a_name (of_kind text (name_word name) one.token one.is_word);
         fitting = one.is_word.spelling_is;
@@ -57,7 +52,7 @@ module _ (text : List ℕ) where
       → Says text (operator_words form name) (IsWrittenOperation text) (IsNamedOperation form name)
   operator_says prefix_form name tokens are =
       let one = one_of text tokens (operation_word name) are in
-      subst (IsSentence (IsWrittenOperation text) (IsNamedOperation prefix_form name)) (sym one.alone) (record {
+      subst (IsFittingSentence (IsWrittenOperation text) (IsNamedOperation prefix_form name)) (sym one.alone) (record {
         thing = record { name = named text one.token; form = prefix_form };
         is_one = of_prefix_form (operation_named text name one.token one.is_word);
         fitting = record { name_is = one.is_word.spelling_is; form_is = refl };
@@ -67,7 +62,7 @@ module _ (text : List ℕ) where
       let left = first_of text tokens sign (operation_word name ∷ sign ∷ []) are in
       let one = first_of text left.rest (operation_word name) (sign ∷ []) left.are_words in
       let right = one_of text one.rest sign one.are_words in
-      subst (IsSentence (IsWrittenOperation text) (IsNamedOperation infix_form name))
+      subst (IsFittingSentence (IsWrittenOperation text) (IsNamedOperation infix_form name))
       (sym (left.joined ∙ ap (λ (ts : List Token). left.first ∷ ts)
       (one.joined ∙ ap (λ (ts : List Token). one.first ∷ ts) right.alone))) (record {
         thing = record { name = named text one.first; form = infix_form };
@@ -85,20 +80,20 @@ module _ (text : List ℕ) where
     sorts_say s ss tokens are =
         let names =
         separated_say text (data_naming signature) well binary (λ (r : Sort). name_word r.name ∷ []) (IsName text) IsSortDeclared s ss
-        (each_of (λ (r : Sort). Says text (name_word r.name ∷ []) (IsName text) (IsSortDeclared r)) (λ r. name_says r.name) (s ∷ ss))
+        (every_all (λ (r : Sort). Says text (name_word r.name ∷ []) (IsName text) (IsSortDeclared r)) (λ r. name_says r.name) (s ∷ ss))
         tokens are in
         record { thing = names.thing; is_one = loosely names.is_one; fitting = names.fitting }
 
     arguments_say : (sorts : List ℕ)
         → Says text (argument_words signature sorts) (AreOptionalNames text) (Correspond (IsSortWritten signature) sorts)
     arguments_say [] tokens are =
-        subst (IsSentence (AreOptionalNames text) (Correspond (IsSortWritten signature) [])) (sym (no_words text tokens are))
+        subst (IsFittingSentence (AreOptionalNames text) (Correspond (IsSortWritten signature) [])) (sym (no_words text tokens are))
         (record { thing = []; is_one = left_out; fitting = tt })
     arguments_say (s ∷ ss) tokens are =
         let names =
         separated_say text (data_naming signature) well binary (λ (r : ℕ). name_word (sort_text signature r) ∷ []) (IsName text)
         (IsSortWritten signature) s ss
-        (each_of (λ (r : ℕ). Says text (name_word (sort_text signature r) ∷ []) (IsName text) (IsSortWritten signature r))
+        (every_all (λ (r : ℕ). Says text (name_word (sort_text signature r) ∷ []) (IsName text) (IsSortWritten signature r))
         (λ r. name_says (sort_text signature r)) (s ∷ ss))
         tokens are in
         record { thing = names.thing; is_one = there names.is_one; fitting = names.fitting }
@@ -118,7 +113,7 @@ module _ (text : List ℕ) where
         let sign = first_of text parts.right arrow (sort_ ∷ []) parts.right_are in
         let sort = one_of text sign.rest sort_ sign.are_words in
         let names = arguments_say arguments parts.left parts.left_are in
-        subst (IsSentence (IsProfile text) (IsProfileWritten arguments result))
+        subst (IsFittingSentence (IsProfile text) (IsProfileWritten arguments result))
         (sym (begin.joined ∙ ap (λ (ts : List Token). begin.first ∷ ts)
         (parts.joined ∙ ap (λ (ts : List Token). parts.left ++ ts)
         (sign.joined ∙ ap (λ (ts : List Token). sign.first ∷ ts) sort.alone)))) (record {
@@ -158,7 +153,7 @@ module _ (text : List ℕ) where
         (λ (lines : List (List WrittenOperation)). Correspond (IsOperationWritten signature) os (flat_map (λ line. line) lines))
     lines_say [] tokens are =
         subst
-        (IsSentence (Many (IsOperationLine text))
+        (IsFittingSentence (Many (IsOperationLine text))
         (λ (lines : List (List WrittenOperation)). Correspond (IsOperationWritten signature) [] (flat_map (λ line. line) lines)))
         (sym (no_words text tokens are)) (record { thing = []; is_one = no_more; fitting = tt })
     lines_say (o ∷ os) tokens are =
@@ -167,7 +162,7 @@ module _ (text : List ℕ) where
         let first = operation_says o parts.left parts.left_are in
         let rest = lines_say os parts.right parts.right_are in
         subst
-        (IsSentence (Many (IsOperationLine text))
+        (IsFittingSentence (Many (IsOperationLine text))
         (λ (lines : List (List WrittenOperation)). Correspond (IsOperationWritten signature) (o ∷ os) (flat_map (λ line. line) lines)))
         (sym parts.joined) (record {
           thing = (first.thing ∷ []) ∷ rest.thing;
@@ -179,13 +174,13 @@ module _ (text : List ℕ) where
         → Says text (operations_words signature os) (Optional [] (Behind OPNS (AreOperations text)))
         (Correspond (IsOperationWritten signature) os)
     operations_say [] tokens are =
-        subst (IsSentence (Optional [] (Behind OPNS (AreOperations text))) (Correspond (IsOperationWritten signature) []))
+        subst (IsFittingSentence (Optional [] (Behind OPNS (AreOperations text))) (Correspond (IsOperationWritten signature) []))
         (sym (no_words text tokens are)) (record { thing = []; is_one = left_out; fitting = tt })
     operations_say (o ∷ os) tokens are =
         let word : Word = a_word OPNS (codes "opns") in
         let begin = first_of text tokens word (flat_map (operation_line_words signature) (o ∷ os)) are in
         let lines = lines_say (o ∷ os) begin.rest begin.are_words in
-        subst (IsSentence (Optional [] (Behind OPNS (AreOperations text))) (Correspond (IsOperationWritten signature) (o ∷ os)))
+        subst (IsFittingSentence (Optional [] (Behind OPNS (AreOperations text))) (Correspond (IsOperationWritten signature) (o ∷ os)))
         (sym begin.joined) (record {
           thing = flat_map (λ line. line) lines.thing;
           is_one = there (behind (of_kind text word begin.first begin.is_word) (operations lines.is_one));
@@ -203,7 +198,7 @@ module _ (text : List ℕ) where
 
     equations_fit : Every (IsFlatEquation text signature well form.infix_operations) data_.equations
     equations_fit =
-        each_by_position (IsFlatEquation text signature well form.infix_operations) data_.equations (λ i e at. record {
+        every_from (IsFlatEquation text signature well form.infix_operations) data_.equations (λ i e at. record {
           over = form.well_formed.equations e (i, at);
           numbered = form.equations e (i, at);
           few = form.limits.variables e (i, at);
@@ -223,7 +218,7 @@ module _ (text : List ℕ) where
         let operations = operations_say signature well form.infix_operations signature.operations rest.left rest.left_are in
         let equations =
         equations_say text signature well form.infix_operations data_.equations equations_fit rest.right rest.right_are in
-        subst (IsSentence (AreSections text) (AreSectionsWritten data_))
+        subst (IsFittingSentence (AreSections text) (AreSectionsWritten data_))
         (sym (begin.joined ∙ ap (λ (ts : List Token). begin.first ∷ ts)
         (parts.joined ∙ ap (λ (ts : List Token). parts.left ++ ts) rest.joined))) (record {
           thing = record {
@@ -267,7 +262,7 @@ module _ (text : List ℕ) where
         let parts = parts_of text sign.rest sections_ (end_ ∷ []) sign.are_words in
         let end = one_of text parts.right end_ parts.right_are in
         let inside = sections_say s ss is parts.left parts.left_are in
-        subst (IsSentence (IsItem text) (IsDataItem s ss))
+        subst (IsFittingSentence (IsItem text) (IsDataItem s ss))
         (sym (begin.joined ∙ ap (λ (ts : List Token). begin.first ∷ ts)
         (name.joined ∙ ap (λ (ts : List Token). name.first ∷ ts)
         (sign.joined ∙ ap (λ (ts : List Token). sign.first ∷ ts)
@@ -282,11 +277,11 @@ module _ (text : List ℕ) where
     items_say : (sorts : List Sort) → signature.sorts ≡ sorts
         → Says text (type_words_over data_ sorts) (AreItems text) (AreItemsWritten data_ sorts)
     items_say [] is tokens are =
-        subst (IsSentence (AreItems text) (AreItemsWritten data_ [])) (sym (no_words text tokens are))
+        subst (IsFittingSentence (AreItems text) (AreItemsWritten data_ [])) (sym (no_words text tokens are))
         (record { thing = []; is_one = no_more; fitting = tt })
     items_say (s ∷ ss) is tokens are =
         let item = item_says s ss is tokens are in
-        subst (IsSentence (AreItems text) (AreItemsWritten data_ (s ∷ ss))) (append-nil tokens) (record {
+        subst (IsFittingSentence (AreItems text) (AreItemsWritten data_ (s ∷ ss))) (append-nil tokens) (record {
           thing = item.thing ∷ [];
           is_one = and_then item.is_one no_more;
           fitting = item.fitting.alone;

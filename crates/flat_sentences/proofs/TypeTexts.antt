@@ -1,18 +1,18 @@
 -- The text of the type of data is cut into the words of the type.
-use Rattle.std.proofs.Common.{◌≡◌, inl, inr, ℕ, suc, false, List, [], ◌∷◌, ◌++◌, map, length, refl, ap, sym, ◌∙◌, subst, arith, append_assoc, codes}
+use Rattle.std.proofs.Common.{◌≡◌, inl, inr, ℕ, false, List, [], ◌∷◌, ◌++◌, map, length, refl, ap, sym, ◌∙◌, subst, arith, append_assoc, codes}
 use Rattle.std.specs.Prelude.{Option, Some, slice_get, flat_map}
 use Rattle.std.specs.List.{concat}
 use Rattle.lotos_base.proofs.Members.{member_at}
 use Rattle.lotos_base.proofs.SortLemmas.{sort_of_sorted}
 use Rattle.lotos_base.specs.Signature.{Signature, Sort, Operation, Form, prefix_form, infix_form, IsSort, IsOperation, IsWellFormedSignature}
-use Rattle.lotos_base.specs.Sorting.{Occurs, OccursAmong, sort_of}
+use Rattle.lotos_base.specs.Sorting.{Occurs, OccursAmong, head_sort_of}
 use Rattle.lotos_base.specs.Term.{Term, Terms, variable, node, no_terms, term_then}
 use Rattle.lotos_base.specs.Equation.{Variable, Equation, Data, IsEquationOver, IsWellFormedData}
 use Rattle.lotos_lexer.specs.declared.kinds.TheConstants.{TYPE, NAME, IS, SORTS, OPNS, EQNS, OFSORT, FORALL, ENDTYPE, UNDERSCORE, COLON, ARROW, EQUALS, SEMICOLON}
 use Rattle.lotos_lexer.specs.Lexemes.{underscore_before}
 use Rattle.behaviour_semantics.specs.WellFormed.{Every}
 use Rattle.behaviour_semantics.proofs.InstanceLemmas.{every_at}
-use Rattle.behaviour_semantics.proofs.RaisedDrafts.{every_map}
+use Rattle.behaviour_semantics.proofs.EveryLemmas.{every_map, every_from}
 use Rattle.printed_texts.specs.Brackets.{commas}
 use Rattle.printed_texts.specs.TermText.{sort_name, sort_text, variable_text, term_text}
 use Rattle.specification_laws.specs.TextNames.{IsWordSpelling, IsOperationSpelling, HasTextNames}
@@ -32,11 +32,6 @@ use Rattle.flat_sentences.proofs.TermTexts.{term_matches, whole_cut}
 use Rattle.flat_sentences.proofs.Given.{sort_within}
 use Rattle.flat_sentences.proofs.Variables.{from_named}
 use Rattle.flat_sentences.proofs.VariableNames.{renamed_are_words, declared_is_word}
-
--- what holds of each member by its position
-pub each_by_position : {X : Type 0} (P : X → Type 0) (xs : List X) → ((i : ℕ) (x : X) → slice_get xs i ≡ Some x → P x) → Every P xs
-each_by_position P [] all = tt
-each_by_position P (x ∷ xs) all = (all 0 x refl, each_by_position P xs (λ i y at. all (suc i) y at))
 
 -- ---- Signs
 
@@ -112,7 +107,7 @@ module _ (signature : Signature) (fine : IsWellFormedSignature signature) (spell
       (ends_behind name (codes " : ") name_words colon (operator_extends o.form o.name (spelled.operations f o at))
       (λ rest. apart 32 (codes ": " ++ rest) refl refl) colon_ends)
       (arguments_end o.arguments
-      (each_by_position (IsSort signature) o.arguments (λ i s there. fine.arguments f i s o at there))))
+      (every_from (IsSort signature) o.arguments (λ i s there. fine.arguments f i s o at there))))
       arrow_ends)
       (sort_extends o.result (fine.results f o at))))
 
@@ -180,16 +175,17 @@ module _ (signature : Signature) (fine : IsWellFormedSignature signature) (spell
       (term_matches signature fine spelled xs t (named_by_words xs t named)).extends
 
   sides_sort_extends : (e : Equation) → IsEquationOver signature e
-      → Extends (sort_if_any signature (sort_of signature e.left)) (name_word (sort_if_any signature (sort_of signature e.left)) ∷ [])
+      → Extends (sort_if_any signature (head_sort_of signature e.left))
+      (name_word (sort_if_any signature (head_sort_of signature e.left)) ∷ [])
   sides_sort_extends e over =
-      let sorted : sort_of signature e.left ≡ Some over.sort = sort_of_sorted signature e.left over.sort over.left_sort in
+      let sorted : head_sort_of signature e.left ≡ Some over.sort = sort_of_sorted signature e.left over.sort over.left_sort in
       subst (λ (found : Option ℕ). Extends (sort_if_any signature found) (name_word (sort_if_any signature found) ∷ [])) (sym sorted)
       (sort_extends over.sort (sort_within signature e.left over.sort over.left_sort fine))
 
   equation_ends : (e : Equation) → IsEquationOver signature e → AreWhole (equation_line signature e) (equation_line_words signature e)
   equation_ends e over =
       let xs : List Variable = renamed_variables signature e in
-      let sort : List ℕ = sort_if_any signature (sort_of signature e.left) in
+      let sort : List ℕ = sort_if_any signature (head_sort_of signature e.left) in
       let all : List ℕ = for_all signature xs in
       let left : List ℕ = term_text signature xs e.left in
       let right : List ℕ = term_text signature xs e.right in
@@ -214,7 +210,7 @@ module _ (signature : Signature) (fine : IsWellFormedSignature signature) (spell
       (blank_ends (codes "ofsort " ++ sort) head
       (ends_before (codes "ofsort ") sort (a_word OFSORT (codes "ofsort") ∷ []) (name_word sort ∷ []) ofsort_ends
       (sides_sort_extends e over)))
-      (for_all_ends xs (each_by_position (λ (x : Variable). IsVariableNamed x × IsSort signature x.sort) xs known)))
+      (for_all_ends xs (every_from (λ (x : Variable). IsVariableNamed x × IsSort signature x.sort) xs known)))
       (side_extends e e.left (λ n s occurs. declared_is_word signature e n s (over.left_declared n s occurs))))
       (λ rest. apart 32 (codes "= " ++ rest) refl refl) equals_whole)
       (side_extends e e.right (λ n s occurs. declared_is_word signature e n s (over.right_declared n s occurs))))
@@ -292,17 +288,17 @@ module _ (data_ : Data) (well : IsWellFormedData data_) (spelled : HasTextNames 
       operations
       (ends_joined (line (codes "type Data is")) (sorts_lines (s ∷ ss)) first sorts type_ends (sorts_end s ss all))
       (operations_end signature well.signature spelled signature.operations
-      (each_by_position (λ (o : Operation). AreWhole (operation_line signature o) (operation_line_words signature o)) signature.operations
+      (every_from (λ (o : Operation). AreWhole (operation_line signature o) (operation_line_words signature o)) signature.operations
       (operation_ends signature well.signature spelled))))
       (equations_end signature well.signature spelled data_.equations
-      (each_by_position (λ (e : Equation). AreWhole (equation_line signature e) (equation_line_words signature e)) data_.equations
+      (every_from (λ (e : Equation). AreWhole (equation_line signature e) (equation_line_words signature e)) data_.equations
       (λ i e at. equation_ends signature well.signature spelled e (well.equations e (i, at))))))
       end_ends)
 
   pub types_end : AreWhole (data_text data_) (type_words data_)
   types_end =
       lines_over data_.signature.sorts
-      (each_by_position (λ (r : Sort). IsWordSpelling r.name) data_.signature.sorts (λ i r at. spelled.sorts i r at))
+      (every_from (λ (r : Sort). IsWordSpelling r.name) data_.signature.sorts (λ i r at. spelled.sorts i r at))
 
   pub types_extend : Extends (data_text data_) (type_words data_)
   types_extend = ends_extend (data_text data_) (type_words data_) types_end

@@ -9,7 +9,7 @@ use Rattle.behaviour_semantics.specs.WellFormed.{Every}
 use Rattle.printed_texts.specs.TermText.{variable_text}
 use Rattle.specification_laws.specs.TextNames.{IsWordSpelling}
 use Rattle.flat_text.specs.FreeNames.{with_number, least_free}
-use Rattle.flat_text.specs.EquationNames.{operation_names, free_names, equation_names, named, renamed_variables}
+use Rattle.flat_text.specs.EquationNames.{operation_names, free_names, equation_names, variables_under_names, renamed_variables}
 use Rattle.flat_text.proofs.EquationApart.{equation_names_are_apart}
 use Rattle.flat_sentences.specs.BehaviourTextLaws.{IsVariableNamed}
 use Rattle.flat_sentences.proofs.GivenWords.{decimal_digits, digits_long}
@@ -28,13 +28,14 @@ names_are_words taken zero number = tt
 names_are_words taken (suc count) number =
     (number_is_word (least_free taken (codes "v") number), names_are_words taken count (suc (least_free taken (codes "v") number)))
 
-named_by_words : (names : List (List ℕ)) (xs : List Variable) → Every IsWordSpelling names → Every IsVariableNamed (named names xs)
+named_by_words : (names : List (List ℕ)) (xs : List Variable) → Every IsWordSpelling names
+    → Every IsVariableNamed (variables_under_names names xs)
 named_by_words [] xs all = tt
 named_by_words (name ∷ names) [] all = tt
 named_by_words (name ∷ names) (x ∷ xs) all = (all.0, named_by_words names xs all.1)
 
 number_there : (names : List (List ℕ)) (xs : List Variable) (i : ℕ) (x : Variable) → length names ≡ length xs
-    → slice_get xs i ≡ Some x → (y : Variable) × (slice_get (named names xs) i ≡ Some y) × (y.number ≡ x.number)
+    → slice_get xs i ≡ Some x → (y : Variable) × (slice_get (variables_under_names names xs) i ≡ Some y) × (y.number ≡ x.number)
 number_there [] [] i x same at = absurd (none-some x at)
 number_there [] (y ∷ ys) i x same at = absurd (omega (arith, same))
 number_there (name ∷ names) [] i x same at = absurd (none-some x at)

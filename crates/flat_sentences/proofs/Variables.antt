@@ -16,9 +16,9 @@ use Rattle.printed_texts.specs.TermText.{variable_text}
 use Rattle.specification_laws.specs.TermMeanings.{VariableMeans}
 use Rattle.flat_sentences.specs.Meanings.{AreInRow}
 use Rattle.flat_text.specs.FreeNames.{has_name}
-use Rattle.flat_text.specs.EquationNames.{operation_names, equation_names, named, renamed_variables}
+use Rattle.flat_text.specs.EquationNames.{operation_names, equation_names, variables_under_names, renamed_variables}
 use Rattle.flat_text.proofs.EquationApart.{equation_names_are_apart}
-use Rattle.flat_sentences.proofs.Signatures.{some_passes}
+use Rattle.std.proofs.lemmas.Map.Keys.{any_passes_from_place}
 
 -- ---- Members of lists
 
@@ -41,7 +41,7 @@ abbrev under : List ℕ → Variable → Variable
 under name x = record { name = name; number = x.number; sort = x.sort }
 
 at_named : (names : List (List ℕ)) (xs : List Variable) (i : ℕ) (name : List ℕ) (x : Variable) → slice_get names i ≡ Some name
-    → slice_get xs i ≡ Some x → slice_get (named names xs) i ≡ Some (under name x)
+    → slice_get xs i ≡ Some x → slice_get (variables_under_names names xs) i ≡ Some (under name x)
 at_named [] xs i name x at there = absurd (none-some name at)
 at_named (m ∷ ms) [] i name x at there = absurd (none-some x there)
 at_named (m ∷ ms) (y ∷ ys) zero name x at there =
@@ -56,7 +56,7 @@ pub record IsNamedAt (names : List (List ℕ)) (xs : List Variable) (i : ℕ) (v
   pub number_is : v.number ≡ before.number
   pub sort_is : v.sort ≡ before.sort
 
-pub from_named : (names : List (List ℕ)) (xs : List Variable) (i : ℕ) (v : Variable) → slice_get (named names xs) i ≡ Some v
+pub from_named : (names : List (List ℕ)) (xs : List Variable) (i : ℕ) (v : Variable) → slice_get (variables_under_names names xs) i ≡ Some v
     → IsNamedAt names xs i v
 from_named [] xs i v at = absurd (none-some v at)
 from_named (m ∷ ms) [] i v at = absurd (none-some v at)
@@ -79,7 +79,7 @@ from_named (m ∷ ms) (y ∷ ys) (suc i) v at =
 
 -- ---- Numbers in a row
 
-named_in_row : (names : List (List ℕ)) (xs : List Variable) (next : ℕ) → AreInRow next xs → AreInRow next (named names xs)
+named_in_row : (names : List (List ℕ)) (xs : List Variable) (next : ℕ) → AreInRow next xs → AreInRow next (variables_under_names names xs)
 named_in_row [] xs next row = tt
 named_in_row (m ∷ ms) [] next row = tt
 named_in_row (m ∷ ms) (y ∷ ys) next row = (row.0, named_in_row ms ys (suc next) row.1)
@@ -138,7 +138,8 @@ module _ (signature : Signature) (equation : Equation)
       let free : has_name (operation_names signature) v.name ≡ false =
       equation_names_are_apart.free signature (length equation.variables) few_names i v.name from.name_there in
       let taken : list_any (one_name v.name) (operation_names signature) ≡ true =
-      some_passes (one_name v.name) (operation_names signature) f o.name (at_map (λ (p : Operation). p.name) signature.operations f o at)
+      any_passes_from_place (one_name v.name) (operation_names signature) f o.name
+      (at_map (λ (p : Operation). p.name) signature.operations f o at)
       (bytes_same (folded v.name) (folded o.name) same) in
       cc
 

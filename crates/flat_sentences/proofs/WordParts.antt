@@ -2,9 +2,9 @@
 use Rattle.std.proofs.Common.{◌≡◌, ℕ, List, [], ◌∷◌, ◌++◌, refl, ap, sym, ◌∙◌, subst, codes}
 use Rattle.lotos_lexer.specs.declared.tokens.Token.{Token}
 use Rattle.lotos_lexer.specs.declared.kinds.TheConstants.{LEFT_PARENTHESIS, RIGHT_PARENTHESIS, LEFT_BRACKET, RIGHT_BRACKET}
-use Rattle.lotos_rows.specs.Words.{IsOf, Between, between}
+use Rattle.lotos_rows.specs.Words.{IsOfKind, Between, between}
 use Rattle.flat_sentences.specs.PrintedWords.{Word, IsWord, AreWords, a_word, round_words, square_words}
-use Rattle.flat_sentences.specs.WordLaws.{IsSentence}
+use Rattle.flat_sentences.specs.WordLaws.{IsFittingSentence}
 
 module _ (text : List ℕ) where
   -- the first token, and the others
@@ -56,12 +56,12 @@ module _ (text : List ℕ) where
   one_of (token ∷ []) word are = record { token = token; alone = refl; is_word = are.0 }
   one_of (token ∷ (more ∷ tokens)) word are = absurd are.1
 
-  pub of_kind : (word : Word) (token : Token) → IsWord text token word → IsOf word.kind token
+  pub of_kind : (word : Word) (token : Token) → IsWord text token word → IsOfKind word.kind token
   of_kind word token is = record { kind_is = is.kind_is }
 
   -- Whatever tokens are these words are a thing that fits.
   abbrev pub Says : {A : Type 0} → List Word → (List Token → A → Type 0) → (A → Type 0) → Type 0
-  Says words one fits = (tokens : List Token) → AreWords text tokens words → IsSentence one fits tokens
+  Says words one fits = (tokens : List Token) → AreWords text tokens words → IsFittingSentence one fits tokens
 
   -- a thing between two words
   pub between_says : {A : Type 0} (left right : Word) (words : List Word) (one : List Token → A → Type 0) (fits : A → Type 0)
@@ -74,7 +74,7 @@ module _ (text : List ℕ) where
       let whole : tokens ≡ begin.first ∷ (parts.left ++ end.token ∷ []) =
       begin.joined ∙ ap (λ (ts : List Token). begin.first ∷ ts)
       (parts.joined ∙ ap (λ (ts : List Token). parts.left ++ ts) end.alone) in
-      subst (IsSentence (Between left.kind right.kind one) fits) (sym whole) (record {
+      subst (IsFittingSentence (Between left.kind right.kind one) fits) (sym whole) (record {
         thing = inner.thing;
         is_one =
             between (of_kind left begin.first begin.is_word) inner.is_one (of_kind right end.token end.is_word);

@@ -17,7 +17,7 @@ use Rattle.flat_sentences.specs.WrittenSpecifications.{IsFlatlyWritten}
 use Rattle.flat_text.specs.GivenNames.{given_names}
 use Rattle.flat_text.specs.FlatText.{flat_naming}
 use Rattle.flat_sentences.specs.PrintedWords.{AreWords}
-use Rattle.flat_sentences.specs.WordLaws.{IsSentence}
+use Rattle.flat_sentences.specs.WordLaws.{IsFittingSentence}
 use Rattle.flat_sentences.specs.FlatWords.{specification_words}
 use Rattle.flat_sentences.specs.TypeWords.{type_words}
 use Rattle.flat_sentences.specs.WrittenData.{AreDataWritten}
@@ -48,4 +48,4 @@ FlatTextsAreReadAsTheSame = (source : List ℕ) (source_tokens : List Token) (so
     → SpecificationIs data_.signature (without_items source_tree) (resolved specification)
     → tokens_of number text ≡ lexed.Tokens tokens
     → AreWords text tokens (specification_words (naming_of_flat data_ specification) (type_words data_) specification)
-    → IsSentence (IsWrittenSpecification text) (IsSameReading data_ specification) tokens
+    → IsFittingSentence (IsWrittenSpecification text) (IsSameReading data_ specification) tokens

@@ -13,7 +13,7 @@ use Rattle.scope_parts.specs.Resolution.{resolved}
 use Rattle.scope_parts.specs.Definitions.{SpecificationIs}
 use Rattle.specification_laws.specs.TextNames.{HasTextNames}
 use Rattle.flat_text.specs.FlatText.{flat_text}
-use Rattle.flat_sentences.specs.WordLaws.{IsSentence}
+use Rattle.flat_sentences.specs.WordLaws.{IsFittingSentence}
 use Rattle.flat_sentences.specs.DataLaws.{AreDataOfText}
 use Rattle.flat_sentences.specs.FlatReadings.{IsSameReading}
 use Rattle.flat_sentences.specs.FlatTextLaws.{HasSpecificationNames}
@@ -24,7 +24,7 @@ pub record IsFlatTextReadBack (number : ℕ) (data_ : Data) (specification : Spe
   pub tokens : List Token
   pub cut_into : tokens_of number (flat_text data_ specification) ≡ lexed.Tokens tokens
   pub sentence :
-      IsSentence (IsWrittenSpecification (flat_text data_ specification)) (IsSameReading data_ specification) tokens
+      IsFittingSentence (IsWrittenSpecification (flat_text data_ specification)) (IsSameReading data_ specification) tokens
 
 abbrev pub FlatTextsAreReadBack : Type 0
 FlatTextsAreReadBack = (number : ℕ) (source : List ℕ) (source_tokens : List Token) (source_tree : WrittenSpecification) (data_ : Data)

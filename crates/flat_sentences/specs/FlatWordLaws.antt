@@ -13,7 +13,7 @@ use Rattle.scope_parts.specs.Resolution.{resolved}
 use Rattle.scope_parts.specs.Definitions.{SpecificationIs}
 use Rattle.flat_sentences.specs.WrittenSpecifications.{IsFlatNaming, IsFlatlyWritten, renamed}
 use Rattle.flat_sentences.specs.PrintedWords.{Word, AreWords}
-use Rattle.flat_sentences.specs.WordLaws.{HasBinaryInfixes, IsSentence}
+use Rattle.flat_sentences.specs.WordLaws.{HasBinaryInfixes, IsFittingSentence}
 use Rattle.flat_sentences.specs.FlatWords.{specification_words, HaveTextForms}
 
 -- The tree is written as the flat text of the specification, and stands for it but for the names of processes. Its types are read of
@@ -38,7 +38,7 @@ FlatWordsAreReadAsTheSame = (text : List ℕ) (naming : Naming) (source : Writte
     → SpecificationIs naming.signature source (resolved specification)
     → ((some : List Token) → AreWords text some types → (items : List WrittenItem) × AreItems text some items)
     → AreWords text tokens (specification_words naming types specification)
-    → IsSentence (IsWrittenSpecification text) (IsFlatReading text naming types specification) tokens
+    → IsFittingSentence (IsWrittenSpecification text) (IsFlatReading text naming types specification) tokens
 
 -- A tree that is flatly written is so still where its types are taken out: it has processes alone behind its `where`.
 abbrev pub FlatTreesStay : Type 0

@@ -1,7 +1,7 @@
 -- What crates above this one need of the crates below it.
 pub use Rattle.flat_text.specs.DataText.{line, sorts_lines, operation_line, operations_lines, equations_lines, equation_line, for_all}
 pub use Rattle.flat_text.specs.DataText.{sorted_variable, sort_if_any, data_lines, data_text}
-pub use Rattle.flat_text.specs.EquationNames.{operation_names, free_names, equation_names, named, renamed_variables}
+pub use Rattle.flat_text.specs.EquationNames.{operation_names, free_names, equation_names, variables_under_names, renamed_variables}
 pub use Rattle.flat_text.specs.FlatText.{heading, process_lines, processes_lines, where_lines, flat_naming, flat_text}
 pub use Rattle.flat_text.specs.FreeNames.{least_free}
 pub use Rattle.flat_text.specs.GivenNames.{given_name, given_behind, given_names}
@@ -20,8 +20,8 @@ pub use Rattle.printed_texts.specs.TermText.{phrase_of, phrases_of}
 pub use Rattle.specification_laws.specs.AgreementLaws.{NoDisagreementIsAgreement}
 pub use Rattle.specification_laws.specs.ExitLaws.{EndsWith, ExitsHaveTheirSorts}
 pub use Rattle.specification_laws.specs.HandedOn.{shown_label, names_of_variables, bound_names, LeadTo, Situation, derivations_of, PastStep}
-pub use Rattle.specification_laws.specs.HandedOn.{SessionsFollowDerivations, IsStateOver, SessionBasis, Progress, items_of, stepped, opened}
-pub use Rattle.specification_laws.specs.HandedOn.{HasStepped, lines_of, Heading, no_heading, of_steps, of_states, goes_on, is_miscounted}
+pub use Rattle.specification_laws.specs.HandedOn.{SessionsFollowDerivations, IsStateOver, SessionBasis, Progress, items_of, stepped, opened_progress}
+pub use Rattle.specification_laws.specs.HandedOn.{HasStepped, lines_of, TraceHeading, no_heading, of_steps, of_states, goes_on, is_miscounted}
 pub use Rattle.specification_laws.specs.HandedOn.{is_misread, is_unmet, is_replayed, LinesComeTo, all_done, one_goes_on, StatedLinesComeTo}
 pub use Rattle.specification_laws.specs.HandedOn.{all_stated, both_go_on, ComeBehindName, ComeBehind, StepLine, AroundArrow, is_number}
 pub use Rattle.specification_laws.specs.HandedOn.{leads_with_zero, step_line, has_return, with_arrow, around_arrow, with_terms, IsSituation}
@@ -29,7 +29,7 @@ pub use Rattle.specification_laws.specs.HandedOn.{first_digits, behind_digits, n
 pub use Rattle.specification_laws.specs.HandedOn.{StateTextsAreOfNames, is_printable, AreRead, Item, first_situation, IsLawfulItem, stops}
 pub use Rattle.specification_laws.specs.HandedOn.{IsLawful, LinesOutcome, ReplayRefusal, ReplayIs, trace_of, shown_state, IsOnOneLine}
 pub use Rattle.specification_laws.specs.HandedOn.{all_disagreements, gates_bound, variables_bound, process_gates, process_variables}
-pub use Rattle.specification_laws.specs.HandedOn.{all_gates_of, Follow, HasGateNumber, IsInOrderOfText, all_variables_of, variables_in}
+pub use Rattle.specification_laws.specs.HandedOn.{all_gates_of, Follow, HasGateNumber, IsInOrderOfText, all_variables_of, declared_variables_in}
 pub use Rattle.specification_laws.specs.HandedOn.{inner_variables, inners_variables, declared_variables, HasVariableNumber}
 pub use Rattle.specification_laws.specs.HandedOn.{HasDeclaredGates, TextsHaveDeclaredGates, HasDistinctGates, EntriesStayAtGates}
 pub use Rattle.specification_laws.specs.HandedOn.{AreSameProcesses, AreSameSpecifications, AreOneProcess, IsOneOf, UsesOnly}

@@ -8,7 +8,7 @@ use Rattle.syntax_trees.specs.WrittenVariable.{WrittenVariable}
 use Rattle.syntax_trees.specs.WrittenBehaviour as tree
 use Rattle.syntax_trees.specs.WrittenBehaviour.{WrittenBehaviour, offer_value}
 use Rattle.behaviour_semantics.specs.Behaviour.{Behaviour, stop, action, hide, choose_value, give, Process, Specification}
-use Rattle.specification_laws.specs.HandedOn.{Naming, behaviour_text, sample_signature, a}
+use Rattle.specification_laws.specs.HandedOn.{Naming, behaviour_text, printed_sample_signature, printed_a}
 use Rattle.scope_parts.specs.Definitions.{first_numbers}
 use Rattle.specification_laws.specs.WrittenAs.{IsWrittenAs}
 use Rattle.specification_laws.specs.TermMeanings.{TermMeans}
@@ -17,8 +17,8 @@ use Rattle.flat_sentences.specs.WrittenBehaviours.{IsBehaviourWritten}
 use Rattle.flat_sentences.specs.WrittenSpecifications.{called_names, renamed}
 
 -- a variable of the sort `A`
-abbrev pub variable_named : List ℕ → Variable
-variable_named name = record { name = name; number = 0; sort = 0 }
+abbrev pub sample_variable : List ℕ → Variable
+sample_variable name = record { name = name; number = 0; sort = 0 }
 
 -- somewhere in a text
 abbrev pub somewhere : Place
@@ -27,13 +27,13 @@ somewhere = record { text = 0; line = 1; column = 1 }
 abbrev pub placed : List ℕ → PlacedName
 placed name = record { place = somewhere; name = name }
 
-abbrev pub name_alone : List ℕ → WrittenTerm
-name_alone name = written (record { place = somewhere; name = name; form = prefix_form; sorts = [] }) no_written
+abbrev pub written_name_alone : List ℕ → WrittenTerm
+written_name_alone name = written (record { place = somewhere; name = name; form = prefix_form; sorts = [] }) no_written
 
 -- a gate `g` and processes `P` and `p`, as they are and as they are given names
-abbrev pub naming_with : List (List ℕ) → Naming
-naming_with processes =
-    record { signature = sample_signature; gates = codes "g" ∷ []; processes = processes; truth = None }
+abbrev pub sample_naming : List (List ℕ) → Naming
+sample_naming processes =
+    record { signature = printed_sample_signature; gates = codes "g" ∷ []; processes = processes; truth = None }
 
 abbrev pub nothing_visible : PrintedScope
 nothing_visible = record { gates = []; variables = []; names = []; numbers = first_numbers }
@@ -47,7 +47,7 @@ written_choice =
     tree.hide somewhere (placed (codes "g") ∷ [])
     (tree.choose_value somewhere
     (record { place = somewhere; name = codes "x"; sort = codes "A"; sort_place = somewhere } ∷ [])
-    (tree.action somewhere (codes "g") (offer_value (name_alone (codes "x")) ∷ []) None (tree.stop somewhere)))
+    (tree.action somewhere (codes "g") (offer_value (written_name_alone (codes "x")) ∷ []) None (tree.stop somewhere)))
 
 abbrev pub empty_process : List ℕ → Process
 empty_process name = record { name = name; gates = []; parameters = []; exit = None; body = stop }
@@ -65,22 +65,24 @@ two_processes one other = record {
 
 pub record MeaningExamples : Type 0 where
   -- a constant means itself where no variable has its name, and not where one has, in either case of letters
-  pub plain_constant : TermMeans sample_signature (variable_named (codes "x") ∷ []) (variable_named (codes "x") ∷ []) a 0
-  pub hidden_constant : ¬ TermMeans sample_signature (variable_named (codes "A") ∷ []) (variable_named (codes "A") ∷ []) a 0
+  pub plain_constant : TermMeans printed_sample_signature (sample_variable (codes "x") ∷ []) (sample_variable (codes "x") ∷ []) printed_a 0
+  pub hidden_constant : ¬ TermMeans printed_sample_signature (sample_variable (codes "A") ∷ [])
+      (sample_variable (codes "A") ∷ []) printed_a 0
   -- a constant is written by its name alone, and so is a variable
-  pub written_constant : IsWrittenAs sample_signature [] a (name_alone (codes "a"))
-  pub written_variable : IsWrittenAs sample_signature (variable_named (codes "x") ∷ []) (variable 0 0) (name_alone (codes "x"))
+  pub written_constant : IsWrittenAs printed_sample_signature [] printed_a (written_name_alone (codes "a"))
+  pub written_variable : IsWrittenAs printed_sample_signature (sample_variable (codes "x") ∷ []) (variable 0 0)
+      (written_name_alone (codes "x"))
   -- a behaviour whose gate and variable have the next numbers means itself, and is written as its text says
-  pub text : behaviour_text (naming_with []) [] (hidden_choice 0 (variable_named (codes "x")))
+  pub text : behaviour_text (sample_naming []) [] (hidden_choice 0 (sample_variable (codes "x")))
       ≡ codes "hide g in choice x:A [] g !x; stop"
-  pub means : BehaviourMeans (naming_with []) [] nothing_visible (hidden_choice 0 (variable_named (codes "x")))
-  pub writes : IsBehaviourWritten (naming_with []) [] (hidden_choice 0 (variable_named (codes "x"))) written_choice
+  pub means : BehaviourMeans (sample_naming []) [] nothing_visible (hidden_choice 0 (sample_variable (codes "x")))
+  pub writes : IsBehaviourWritten (sample_naming []) [] (hidden_choice 0 (sample_variable (codes "x"))) written_choice
   -- the gate of another number does not
-  pub other_number : ¬ BehaviourMeans (naming_with []) [] nothing_visible (hidden_choice 1 (variable_named (codes "x")))
+  pub other_number : ¬ BehaviourMeans (sample_naming []) [] nothing_visible (hidden_choice 1 (sample_variable (codes "x")))
   -- `P` and `p` are one name, `P` and `p_2` are two
   pub one_name : ¬ NoneStandsTwice []
-      (called_names (naming_with (codes "P" ∷ codes "p" ∷ [])) 0 (two_processes (codes "P") (codes "p")).processes)
+      (called_names (sample_naming (codes "P" ∷ codes "p" ∷ [])) 0 (two_processes (codes "P") (codes "p")).processes)
   pub two_names : NoneStandsTwice []
-      (called_names (naming_with (codes "P" ∷ codes "p_2" ∷ [])) 0 (two_processes (codes "P") (codes "p")).processes)
-  pub given_names : renamed (naming_with (codes "P" ∷ codes "p_2" ∷ [])) (two_processes (codes "P") (codes "p"))
+      (called_names (sample_naming (codes "P" ∷ codes "p_2" ∷ [])) 0 (two_processes (codes "P") (codes "p")).processes)
+  pub given_names : renamed (sample_naming (codes "P" ∷ codes "p_2" ∷ [])) (two_processes (codes "P") (codes "p"))
       ≡ two_processes (codes "P") (codes "p_2")

@@ -4,10 +4,10 @@ use Rattle.std.specs.Prelude.{◌≡◌, ℕ, suc, List, [], ◌∷◌, ◌++◌
 use Rattle.lotos_base.specs.Names.{folded}
 use Rattle.lotos_base.specs.Signature.{Signature}
 use Rattle.lotos_base.specs.Equation.{Variable}
-use Rattle.lotos_base.specs.Term.{Term, node, no_terms, terms_of}
+use Rattle.lotos_base.specs.Term.{Term, node, no_terms, argument_list_of}
 use Rattle.behaviour_semantics.specs.Behaviour.{Behaviour, stop, exit_with, action, inner_action, guard, choice, parallel, hide, enable, disable, let_be, choose_value, choose_gate, par_gate, call, relabel, Test, Offer, give, ask, ExitValue, exit_value, any_of, SynchronisationSet, no_gates, all_gates, at_gates, Process, asked_variables, sorts_of, let_variables}
 use Rattle.behaviour_semantics.specs.WellFormed.{Every}
-use Rattle.specification_laws.specs.HandedOn.{sort_text, Naming, gate_text, is_constant, gates_bound, variables_bound}
+use Rattle.specification_laws.specs.HandedOn.{sort_text, Naming, gate_text, is_constant, gates_bound, variables_bound, names_of_variables}
 use Rattle.scope_parts.specs.Scope.{Binding, Scope, Callable, bound_to, bind, bind_all, is_bound}
 use Rattle.scope_parts.specs.Numbering.{Numbers, past_gates, past_variables}
 use Rattle.scope_parts.specs.Sorts.{Truth, sort_named, truth_in}
@@ -38,15 +38,11 @@ abbrev pub AreInRow : ℕ → List Variable → Type 0
 AreInRow next [] = Unit {0}
 AreInRow next (x ∷ variables) = (x.number ≡ next) × AreInRow (suc next) variables
 
--- the names of variables
-abbrev pub names_of : List Variable → List (List ℕ)
-names_of variables = map (λ (x : Variable). x.name) variables
-
 -- One list of declarations of variables: numbers in a row, sorts with their names, and no name twice.
 pub record AreDeclaredVariables (signature : Signature) (next : ℕ) (variables : List Variable) : Type 0 where
   pub numbered : AreInRow next variables
   pub sorted : Every (λ (x : Variable). SortMeans signature x.sort) variables
-  pub distinct : NoneStandsTwice [] (names_of variables)
+  pub distinct : NoneStandsTwice [] (names_of_variables variables)
 
 -- One list of declarations of gates: numbers in a row, and no name twice.
 pub record AreDeclaredGates (naming : Naming) (next : ℕ) (gates : List ℕ) : Type 0 where
@@ -140,7 +136,7 @@ pub record CallMeans (naming : Naming) (processes : List Process) (scope : Print
   pub there : slice_get processes number ≡ Some process
   pub gate_count : length gates ≡ length process.gates
   pub gates_mean : Every (GateMeans naming scope.gates) gates
-  pub values_mean : TermsMean naming.signature scope.variables scope.names (terms_of values) (sorts_of process.parameters)
+  pub values_mean : TermsMean naming.signature scope.variables scope.names (argument_list_of values) (sorts_of process.parameters)
 
 -- ---- Behaviours
 

@@ -40,12 +40,12 @@ abbrev pub name_word : List ℕ → Word
 name_word name = a_word NAME name
 
 -- the name of an operation
-abbrev pub operation_kind : List ℕ → ℕ
-operation_kind name =
+abbrev pub operation_name_kind : List ℕ → ℕ
+operation_name_kind name =
     if first_is is_ascii_alphabetic name then NAME else if first_is is_ascii_digit name then DIGIT_NAME else SIGN_NAME
 
 abbrev pub operation_word : List ℕ → Word
-operation_word name = a_word (operation_kind name) name
+operation_word name = a_word (operation_name_kind name) name
 
 -- words in brackets, and lists of words between commas
 abbrev pub round_words : List Word → List Word

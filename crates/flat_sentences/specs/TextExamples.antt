@@ -10,7 +10,7 @@ use Rattle.lotos_lexer.specs.Tokens.{Lexed, tokens_of}
 use Rattle.lotos_rows.specs.Names.{spelled}
 use Rattle.behaviour_semantics.specs.Behaviour.{Behaviour, stop, exit_with, action, guard, choice, parallel, hide, enable, call, give, ask, exit_value, any_of, at_gates, Specification}
 use Rattle.printed_texts.specs.BehaviourText.{Naming, behaviour_text, process_names}
-use Rattle.flat_text.specs.FlatCases.{sort_called, operation_called, constant, no_data}
+use Rattle.flat_text.specs.FlatCases.{sort_called, operation_called, applied_to_none, no_data}
 use Rattle.flat_text.specs.GivenNames.{given_names}
 use Rattle.flat_text.specs.FlatText.{flat_naming, flat_text}
 use Rattle.flat_sentences.specs.PrintedWords.{Word, a_word, name_word, behaviour_words}
@@ -51,12 +51,12 @@ x_asked = record { name = codes "x"; number = 0; sort = 0 }
 -- An offer of a value and one of a variable; a predicate that begins with `>`, behind which a blank has to stand.
 abbrev pub offering_action : Behaviour
 offering_action =
-    action 0 (give (constant 0) ∷ ask x_asked ∷ []) (Some (record { left = constant 1; right = variable 0 0 }))
-    (hide (0 ∷ 1 ∷ []) (exit_with (exit_value (constant 2) ∷ any_of 0 ∷ [])))
+    action 0 (give (applied_to_none 0) ∷ ask x_asked ∷ []) (Some (record { left = applied_to_none 1; right = variable 0 0 }))
+    (hide (0 ∷ 1 ∷ []) (exit_with (exit_value (applied_to_none 2) ∷ any_of 0 ∷ [])))
 
 -- gates between `|[` and `]|`, and a choice beside them
 abbrev pub meeting_at_two : Behaviour
-meeting_at_two = parallel (at_gates (0 ∷ 1 ∷ [])) (choice stop stop) (call 0 (1 ∷ 0 ∷ []) (constant 0 ∷ []))
+meeting_at_two = parallel (at_gates (0 ∷ 1 ∷ [])) (choice stop stop) (call 0 (1 ∷ 0 ∷ []) (applied_to_none 0 ∷ []))
 
 -- no gates between them
 abbrev pub meeting_at_none : Behaviour
@@ -65,7 +65,7 @@ meeting_at_none = parallel (at_gates []) stop stop
 abbrev pub accepting_value : Behaviour
 accepting_value =
     enable stop (x_asked ∷ [])
-    (guard (record { left = node 3 (term_then (variable 0 0) (term_then (constant 1) no_terms)); right = constant 0 }) stop)
+    (guard (record { left = node 3 (term_then (variable 0 0) (term_then (applied_to_none 1) no_terms)); right = applied_to_none 0 }) stop)
 
 -- two processes of one name
 abbrev pub twice_named : Specification

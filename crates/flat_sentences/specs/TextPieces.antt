@@ -13,16 +13,16 @@ pub data TextPiece : Type 0 where
   blank_piece : ℕ → TextPiece
 
 -- the bytes of the pieces
-abbrev pub bytes_of : List TextPiece → List ℕ
-bytes_of [] = []
-bytes_of (word_piece word ∷ pieces) = word.spelling ++ bytes_of pieces
-bytes_of (blank_piece byte ∷ pieces) = byte ∷ bytes_of pieces
+abbrev pub bytes_of_pieces : List TextPiece → List ℕ
+bytes_of_pieces [] = []
+bytes_of_pieces (word_piece word ∷ pieces) = word.spelling ++ bytes_of_pieces pieces
+bytes_of_pieces (blank_piece byte ∷ pieces) = byte ∷ bytes_of_pieces pieces
 
 -- the words of the pieces
-abbrev pub words_of : List TextPiece → List Word
-words_of [] = []
-words_of (word_piece word ∷ pieces) = word ∷ words_of pieces
-words_of (blank_piece byte ∷ pieces) = words_of pieces
+abbrev pub words_of_pieces : List TextPiece → List Word
+words_of_pieces [] = []
+words_of_pieces (word_piece word ∷ pieces) = word ∷ words_of_pieces pieces
+words_of_pieces (blank_piece byte ∷ pieces) = words_of_pieces pieces
 
 -- Each word is the token that begins where it stands: nothing behind it goes on with it. The flag says whether a list of gates is open,
 -- as the lexer counts.
@@ -30,6 +30,6 @@ abbrev pub AreTokens : Bool → List TextPiece → Type 0
 AreTokens open_list [] = Unit {0}
 AreTokens open_list (word_piece word ∷ pieces) =
     (0 < length word.spelling)
-    × (piece_at open_list (word.spelling ++ bytes_of pieces) ≡ Token (lexeme_of word.kind (length word.spelling)))
+    × (piece_at open_list (word.spelling ++ bytes_of_pieces pieces) ≡ Token (lexeme_of word.kind (length word.spelling)))
     × AreTokens (list_open_behind word.kind open_list) pieces
 AreTokens open_list (blank_piece byte ∷ pieces) = (is_blank byte ≡ true) × AreTokens open_list pieces

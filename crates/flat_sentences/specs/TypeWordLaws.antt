@@ -4,7 +4,7 @@ use Rattle.lotos_base.specs.Equation.{Data}
 use Rattle.lotos_lexer.specs.declared.tokens.Token.{Token}
 use Rattle.lotos_rows.specs.Starts.{AreItems}
 use Rattle.flat_sentences.specs.PrintedWords.{AreWords}
-use Rattle.flat_sentences.specs.WordLaws.{IsSentence}
+use Rattle.flat_sentences.specs.WordLaws.{IsFittingSentence}
 use Rattle.flat_sentences.specs.TypeWords.{type_words}
 use Rattle.flat_sentences.specs.WrittenData.{AreDataWritten}
 use Rattle.flat_sentences.specs.DataLaws.{AreDataOfText}
@@ -14,4 +14,4 @@ abbrev pub TypeWordsAreItems : Type 0
 TypeWordsAreItems = (text : List ℕ) (data_ : Data) (tokens : List Token)
     → AreDataOfText data_
     → AreWords text tokens (type_words data_)
-    → IsSentence (AreItems text) (AreDataWritten data_) tokens
+    → IsFittingSentence (AreItems text) (AreDataWritten data_) tokens

@@ -2,7 +2,7 @@
 use Rattle.std.specs.Prelude.{ℕ, List, [], ◌∷◌, ◌++◌, map, flat_map, None, codes}
 use Rattle.lotos_lexer.specs.declared.kinds.TheConstants.{TYPE, IS, SORTS, OPNS, EQNS, OFSORT, FORALL, ENDTYPE, UNDERSCORE, COLON, ARROW, EQUALS, SEMICOLON}
 use Rattle.lotos_base.specs.Signature.{Signature, Sort, Operation, Form, prefix_form, infix_form}
-use Rattle.lotos_base.specs.Sorting.{sort_of}
+use Rattle.lotos_base.specs.Sorting.{head_sort_of}
 use Rattle.lotos_base.specs.Equation.{Variable, Equation, Data}
 use Rattle.printed_texts.specs.TermText.{sort_text}
 use Rattle.printed_texts.specs.BehaviourText.{Naming}
@@ -56,7 +56,7 @@ sides_of_words signature variables equation =
 
 abbrev pub equation_line_words : Signature → Equation → List Word
 equation_line_words signature equation = let variables : List Variable = renamed_variables signature equation in (
-    a_word OFSORT (codes "ofsort") ∷ name_word (sort_if_any signature (sort_of signature equation.left))
+    a_word OFSORT (codes "ofsort") ∷ name_word (sort_if_any signature (head_sort_of signature equation.left))
     ∷ (for_all_words signature variables
     ++ (sides_of_words signature variables equation ++ a_word SEMICOLON (codes ";") ∷ [])))
 

@@ -5,7 +5,7 @@ use Rattle.lotos_base.specs.Equation.{Variable}
 use Rattle.lotos_base.specs.Term.{Term}
 use Rattle.lotos_lexer.specs.declared.tokens.Token.{Token}
 use Rattle.lotos_rows.specs.Terms.{IsTerm}
-use Rattle.lotos_rows.specs.Behaviours.{IsBehaviour}
+use Rattle.lotos_rows.specs.Behaviours.{IsBehaviourText}
 use Rattle.behaviour_semantics.specs.Behaviour.{Behaviour, stop, exit_with, action, inner_action, guard, choice, parallel, hide, enable, disable, let_be, choose_value, choose_gate, par_gate, call, relabel, Process}
 use Rattle.printed_texts.specs.BehaviourText.{Naming}
 use Rattle.specification_laws.specs.WrittenAs.{IsWrittenAs}
@@ -38,7 +38,7 @@ HasTextForm (call number gates values) = Unit {0}
 HasTextForm (relabel pairs b) = ⊥
 
 -- The tokens are one thing by the grammar, and this thing fits.
-pub record IsSentence {A : Type 0} (one : List Token → A → Type 0) (fits : A → Type 0) (tokens : List Token) : Type 0 where
+pub record IsFittingSentence {A : Type 0} (one : List Token → A → Type 0) (fits : A → Type 0) (tokens : List Token) : Type 0 where
   pub thing : A
   pub is_one : one tokens thing
   pub fitting : fits thing
@@ -50,7 +50,7 @@ TermWordsAreSentences = (text : List ℕ) (signature : Signature) (visible names
     → HasBinaryInfixes signature
     → TermMeans signature visible names t sort
     → AreWords text tokens (term_words signature names t)
-    → IsSentence (IsTerm text) (IsWrittenAs signature names t) tokens
+    → IsFittingSentence (IsTerm text) (IsWrittenAs signature names t) tokens
 
 -- and those of a behaviour are a behaviour
 abbrev pub BehaviourWordsAreSentences : Type 0
@@ -61,4 +61,4 @@ BehaviourWordsAreSentences = (text : List ℕ) (naming : Naming) (processes : Li
     → HasTextForm b
     → BehaviourMeans naming processes scope b
     → AreWords text tokens (behaviour_words naming scope.names b)
-    → IsSentence (IsBehaviour text) (IsBehaviourWritten naming scope.names b) tokens
+    → IsFittingSentence (IsBehaviourText text) (IsBehaviourWritten naming scope.names b) tokens

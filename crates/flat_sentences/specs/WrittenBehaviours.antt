@@ -3,7 +3,7 @@
 use Rattle.std.specs.Prelude.{◌≡◌, ℕ, List, [], ◌∷◌, ◌++◌, Bool, true, false, Option, None, Some}
 use Rattle.lotos_base.specs.Signature.{Signature}
 use Rattle.lotos_base.specs.Equation.{Place, Variable}
-use Rattle.lotos_base.specs.Term.{Term, terms_of}
+use Rattle.lotos_base.specs.Term.{Term, argument_list_of}
 use Rattle.lotos_base.specs.WrittenTerm.{PlacedName, WrittenTerm, written_terms}
 use Rattle.syntax_trees.specs.WrittenVariable.{WrittenVariable}
 use Rattle.syntax_trees.specs.WrittenEquation.{WrittenPremiss}
@@ -11,7 +11,7 @@ use Rattle.syntax_trees.specs.WrittenBehaviour as written
 use Rattle.syntax_trees.specs.WrittenBehaviour.{WrittenBehaviour, WrittenSign, choice_sign, interleaving, full_synchronisation, synchronising, disabling, enabling, WrittenGateChoice, WrittenExitValue, exit_term, exit_any, WrittenOffer, offer_value, offer_variable}
 use Rattle.behaviour_semantics.specs.Behaviour.{Behaviour, stop, exit_with, action, inner_action, guard, choice, parallel, hide, enable, disable, let_be, choose_value, choose_gate, par_gate, call, Test, Offer, give, ask, ExitValue, exit_value, any_of, SynchronisationSet, no_gates, all_gates, at_gates, asked_variables, let_variables}
 use Rattle.specification_laws.specs.HandedOn.{sort_text, Naming, gate_text, called_text, is_constant}
-use Rattle.scope_parts.specs.Numbering.{spelled}
+use Rattle.scope_parts.specs.Numbering.{spelled_names}
 use Rattle.specification_laws.specs.WrittenAs.{IsWrittenAs, AreWrittenAs}
 use Rattle.flat_sentences.specs.Meanings.{gate_texts}
 
@@ -28,7 +28,7 @@ IsVariableWritten signature x w = (w.name ≡ x.name) × (w.sort ≡ sort_text s
 
 -- gates of a list
 abbrev pub AreGatesWritten : Naming → List ℕ → List PlacedName → Type 0
-AreGatesWritten naming gates names = spelled names ≡ gate_texts naming gates
+AreGatesWritten naming gates names = spelled_names names ≡ gate_texts naming gates
 
 abbrev pub IsExitValueWritten : Naming → List Variable → ExitValue → WrittenExitValue → Type 0
 IsExitValueWritten naming names (exit_value t) (exit_term w) = IsWrittenAs naming.signature names t w
@@ -149,5 +149,5 @@ pub data IsBehaviourWritten (naming : Naming) : List Variable → Behaviour → 
       {given : List PlacedName} {values : List WrittenTerm} →
       name ≡ called_text naming number →
       AreGatesWritten naming gates given →
-      AreWrittenAs naming.signature names (terms_of terms) (written_terms values) →
+      AreWrittenAs naming.signature names (argument_list_of terms) (written_terms values) →
       IsBehaviourWritten naming names (call number gates terms) (written.call place name given values)

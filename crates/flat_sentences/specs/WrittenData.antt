@@ -2,7 +2,7 @@
 -- equation behind an `ofsort` and a `forall` of its own. Places are left open.
 use Rattle.std.specs.Prelude.{◌≡◌, ℕ, List, [], ◌∷◌, ◌++◌, flat_map, Some, None, slice_get, codes}
 use Rattle.lotos_base.specs.Signature.{Signature, Sort, Operation}
-use Rattle.lotos_base.specs.Sorting.{sort_of}
+use Rattle.lotos_base.specs.Sorting.{head_sort_of}
 use Rattle.lotos_base.specs.Equation.{Variable, Equation, Data}
 use Rattle.lotos_base.specs.WrittenTerm.{PlacedName}
 use Rattle.syntax_trees.specs.WrittenEquation.{WrittenEquation, WrittenGroup}
@@ -37,7 +37,7 @@ pub record IsEquationWritten (signature : Signature) (names : List Variable) (eq
 
 -- an equation behind the sort of its sides and its variables, which are named `v1`, `v2` and so on, without the names of operations
 pub record IsGroupWritten (signature : Signature) (equation : Equation) (group : WrittenGroup) : Type 0 where
-  pub sorted : group.sort ≡ sort_if_any signature (sort_of signature equation.left)
+  pub sorted : group.sort ≡ sort_if_any signature (head_sort_of signature equation.left)
   pub variables : Correspond (IsVariableWritten signature) (renamed_variables signature equation) group.variables
   pub one : WrittenEquation
   pub alone : group.equations ≡ one ∷ []

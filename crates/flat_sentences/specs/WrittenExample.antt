@@ -6,7 +6,7 @@ use Rattle.lotos_base.specs.Equation.{Place, Data}
 use Rattle.lotos_base.specs.WrittenTerm.{PlacedName, WrittenTerm, WrittenTerms, written, no_written, written_then}
 use Rattle.syntax_trees.specs.WrittenEquation.{WrittenEquation}
 use Rattle.syntax_trees.specs.WrittenItem.{WrittenOperation, WrittenSections, WrittenItem, type_declared, extends}
-use Rattle.flat_text.specs.FlatCases.{sort_called, operation_called, constant, applied, x_of, equation_of_sides}
+use Rattle.flat_text.specs.FlatCases.{sort_called, operation_called, applied_to_none, applied_to_one, x_of, equation_by_sides}
 use Rattle.flat_text.specs.DataText.{data_text}
 use Rattle.flat_sentences.specs.WrittenData.{AreDataWritten, StandApart, equations_of_items}
 use Rattle.flat_sentences.specs.DataLaws.{AreDataOfText}
@@ -19,7 +19,7 @@ constant_data = record {
     operations =
         operation_called (codes "V1") prefix_form [] 0 ∷ operation_called (codes "f") prefix_form (0 ∷ []) 0 ∷ [];
   };
-  equations = equation_of_sides (x_of 0 ∷ []) (applied 1 (variable 0 0)) (constant 0) ∷ [];
+  equations = equation_by_sides (x_of 0 ∷ []) (applied_to_one 1 (variable 0 0)) (applied_to_none 0) ∷ [];
 }
 
 abbrev pub line_place : ℕ → Place

@@ -1,12 +1,11 @@
 -- Lines and lists that are written where they have members.
 use Rattle.std.proofs.Common.{◌≡◌, ◌<◌, ◌++◌, ℕ, List, [], ◌∷◌, length, map, nat_eq, true, false, codes, refl, arith}
 use Rattle.std.proofs.lemmas.Bool.{true≢false}
-use Rattle.std.specs.List.{concat}
-use Rattle.lotos_base.specs.Signature.{Signature, Sort, Operation}
-use Rattle.lotos_base.specs.Equation.{Variable, Equation, Data}
+use Rattle.lotos_base.specs.Signature.{Signature, Sort}
+use Rattle.lotos_base.specs.Equation.{Variable, Data}
 use Rattle.behaviour_semantics.specs.Behaviour.{Process}
 use Rattle.report_text.specs.HandedOn.{Naming, gates_text, commas, round, square, sort_text}
-use Rattle.flat_text.specs.DataText.{line, sorts_lines, argument_sorts, operation_line, operations_lines, sorted_variable, for_all, equation_line, equations_lines, data_lines}
+use Rattle.flat_text.specs.DataText.{line, sorts_lines, argument_sorts, operations_lines, sorted_variable, for_all, equations_lines, data_lines}
 use Rattle.flat_text.specs.FlatText.{heading_gates, heading_parameters, processes_lines, where_lines}
 
 -- a list that is not empty, and what is made of its members
@@ -40,20 +39,10 @@ pub arguments_filled : (signature : Signature) (sorts : List ℕ) → (length so
 arguments_filled signature [] some = absurd (some refl)
 arguments_filled signature (sort ∷ sorts) some = refl
 
-pub operations_filled : (signature : Signature) (operations : List Operation) → (length operations ≡ 0 → ⊥)
-    → operations_lines signature operations ≡ line (codes "opns") ++ concat (map (operation_line signature) operations)
-operations_filled signature [] some = absurd (some refl)
-operations_filled signature (operation ∷ operations) some = refl
-
 pub variables_filled : (signature : Signature) (variables : List Variable) → (length variables ≡ 0 → ⊥)
     → for_all signature variables ≡ codes "forall " ++ commas (map (sorted_variable signature) variables) ++ codes " "
 variables_filled signature [] some = absurd (some refl)
 variables_filled signature (x ∷ variables) some = refl
-
-pub equations_filled : (signature : Signature) (equations : List Equation) → (length equations ≡ 0 → ⊥)
-    → equations_lines signature equations ≡ line (codes "eqns") ++ concat (map (equation_line signature) equations)
-equations_filled signature [] some = absurd (some refl)
-equations_filled signature (equation ∷ equations) some = refl
 
 pub data_filled : (data_ : Data) (sorts : List Sort) → (length sorts ≡ 0 → ⊥)
     → data_lines data_ sorts ≡ line (codes "type Data is") ++ sorts_lines sorts

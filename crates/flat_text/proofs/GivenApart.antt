@@ -4,11 +4,11 @@ use Rattle.std.specs.List.{IsDistinct, AllByRecursion}
 use Rattle.std.proofs.lemmas.Bool.{or_left, or_right, or_parts}
 use Rattle.sort_terms.specs.ReadingOutcome.{one_name}
 use Rattle.flat_text.specs.FreeNames.{has_name}
-use Rattle.flat_text.specs.GivenNames.{numbered, given_name, given_behind}
+use Rattle.flat_text.specs.GivenNames.{numbered_name, given_name, given_behind}
 use Rattle.flat_text.specs.NameLaws.{GivenNamesAreApart}
 use Rattle.flat_text.proofs.NumberedNames.{self_same, turned, not_taken, least_is_free}
 
-numbered_free : (taken : List (List ℕ)) (name : List ℕ) → 3 + length taken < 2 ^ 64 → has_name taken (numbered taken name) ≡ false
+numbered_free : (taken : List (List ℕ)) (name : List ℕ) → 3 + length taken < 2 ^ 64 → has_name taken (numbered_name taken name) ≡ false
 numbered_free taken name few = (least_is_free taken (name ++ codes "_") 2 (omega (arith, few))).free
 
 -- so many names, and one less to give
@@ -37,9 +37,9 @@ later one earlier taken (name ∷ names) few there differ = (
       differ n (or_right (one_name n name) (has_name names n) among) (or_parts (one_name n name) (has_name earlier n) unknown).1),
 )
   where
-    head : (b : Bool) → has_name earlier name ≡ b → one_name one (if b then numbered taken name else name) ≡ false
+    head : (b : Bool) → has_name earlier name ≡ b → one_name one (if b then numbered_name taken name else name) ≡ false
     head false is = differ name (or_left (one_name name name) (has_name names name) (self_same name)) is
-    head true is = not_taken taken one (numbered taken name) there (numbered_free taken name (few_taken taken (name ∷ names) few))
+    head true is = not_taken taken one (numbered_name taken name) there (numbered_free taken name (few_taken taken (name ∷ names) few))
 
 given_apart : (earlier taken names : List (List ℕ)) → 3 + (length taken + length names) < 2 ^ 64
     → ((n : List ℕ) → has_name names n ≡ true → has_name taken n ≡ true) → IsDistinct one_name (given_behind earlier taken names)
@@ -59,14 +59,14 @@ given_apart earlier taken (name ∷ names) few known = (
 )
   where
     differ : (b : Bool) → has_name earlier name ≡ b → (n : List ℕ) → has_name names n ≡ true → has_name (name ∷ earlier) n ≡ false
-        → one_name (if b then numbered taken name else name) n ≡ false
+        → one_name (if b then numbered_name taken name else name) n ≡ false
     differ false is n among unknown = turned name n ∙ (or_parts (one_name n name) (has_name earlier n) unknown).0
     differ true is n among unknown =
-        turned (numbered taken name) n
-        ∙ not_taken taken n (numbered taken name) (known n (or_right (one_name n name) (has_name names n) among))
+        turned (numbered_name taken name) n
+        ∙ not_taken taken n (numbered_name taken name) (known n (or_right (one_name n name) (has_name names n) among))
         (numbered_free taken name (few_taken taken (name ∷ names) few))
 
-each_given : (earlier taken names : List (List ℕ)) → length (given_behind earlier taken names) ≡ length names
+pub each_given : (earlier taken names : List (List ℕ)) → length (given_behind earlier taken names) ≡ length names
 each_given earlier taken [] = refl
 each_given earlier taken (name ∷ names) =
     ap suc (each_given (name ∷ earlier) (given_name earlier taken name ∷ taken) names)

@@ -6,7 +6,7 @@ use Rattle.scope_parts.specs.Scope.{Binding, bound_to}
 use Rattle.scope_parts.specs.BindingsView.{bindings_in}
 use Rattle.flat_text.specs.GivenNames.{given_name, given_behind, given_names}
 use Rattle.flat_text.specs.GivingView.{HaveGiven, HasGiven}
-use Rattle.flat_text.specs.WritingView.{HasNames}
+use Rattle.flat_text.specs.WritingView.{HasTheseNames}
 use Rattle.flat_text.specs.declared.given_names.Giving.{Giving}
 use Rattle.flat_text.proofs.TableLemmas.{no_names}
 
@@ -17,7 +17,7 @@ pub record AreGiven (giving : Giving) (made left all : List (List ℕ)) : Type 0
   has : HasGiven giving earlier taken
   whole : made ++ given_behind earlier taken left ≡ given_names all
 
-pub none_given : (known used : List Binding) (all : List (List ℕ)) → known ≡ [] → HasNames used all → HaveGiven known used [] all
+pub none_given : (known used : List Binding) (all : List (List ℕ)) → known ≡ [] → HasTheseNames used all → HaveGiven known used [] all
 none_given [] used all e has = record {
   earlier_names = no_names;
   taken_names = has;

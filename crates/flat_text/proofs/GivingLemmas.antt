@@ -11,15 +11,15 @@ use Rattle.lotos_base.proofs.Bytes.{same_bytes, bytes_same}
 use Rattle.scope_parts.specs.Scope.{Binding, bind, bound_to}
 use Rattle.sort_terms.specs.ReadingOutcome.{one_name}
 use Rattle.flat_text.specs.FreeNames.{has_name, with_number, least_free}
-use Rattle.flat_text.specs.GivenNames.{numbered, given_name}
+use Rattle.flat_text.specs.GivenNames.{numbered_name, given_name}
 use Rattle.flat_text.specs.NameLaws.{IsLeastFree}
-use Rattle.flat_text.specs.WritingView.{HasNames, IsLeastUnbound}
+use Rattle.flat_text.specs.WritingView.{HasTheseNames, IsLeastUnbound}
 use Rattle.flat_text.specs.GivingView.{HaveGiven}
 use Rattle.flat_text.proofs.NumberedNames.{alike, least_is_free}
 use Rattle.flat_text.proofs.TableLemmas.{names_more, unbound_free, least_is_one, tried_before}
 
 -- whether an earlier process has the name
-earlier_has : (known : List Binding) (earlier : List (List ℕ)) (name : List ℕ) (found : Option ℕ) → HasNames known earlier
+earlier_has : (known : List Binding) (earlier : List (List ℕ)) (name : List ℕ) (found : Option ℕ) → HasTheseNames known earlier
     → bound_to known (folded name) ≡ found → has_name earlier name ≡ is_some found
 earlier_has known earlier name found has at = sym (has.same name) ∙ ap (λ (o : Option ℕ). is_some o) at
 
@@ -44,7 +44,7 @@ pub kept : (known used : List Binding) (earlier taken : List (List ℕ)) (name :
     → bound_to known (folded name) ≡ None
     → (name ≡ given_name earlier taken name) × HaveGiven (bind name 2 known) (bind name 0 used) (name ∷ earlier) (name ∷ taken)
 kept known used earlier taken name has at = (
-  sym (ap (λ (b : Bool). if b then numbered taken name else name) (earlier_has known earlier name None has.earlier_names at)),
+  sym (ap (λ (b : Bool). if b then numbered_name taken name else name) (earlier_has known earlier name None has.earlier_names at)),
   record {
     earlier_names = names_more name 2 known earlier has.earlier_names;
     taken_names = names_more name 0 used taken has.taken_names;
@@ -81,7 +81,7 @@ module _ (known used : List Binding) (earlier taken : List (List ℕ)) (name : L
   pub given_next : with_number (name ++ codes "_") number ≡ given_name earlier taken name
   given_next =
       ap (with_number (name ++ codes "_")) is_least
-      ∙ sym (ap (λ (b : Bool). if b then numbered taken name else name)
+      ∙ sym (ap (λ (b : Bool). if b then numbered_name taken name else name)
       (earlier_has known earlier name (Some from) has.earlier_names at))
 
   low_next : (q : List ℕ) (n : ℕ) (b : Bool) → (if b then Some number else bound_to known (folded q)) ≡ Some n → 2 ≤ n

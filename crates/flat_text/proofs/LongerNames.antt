@@ -8,12 +8,13 @@ use Rattle.sort_terms.specs.EquationView.{variable_of}
 use Rattle.sort_terms.specs.SignatureView.{signature_of}
 use Rattle.sort_terms.specs.declared.equations.Flat.{Flat}
 use Rattle.flat_text.specs.FreeNames.{with_number, least_free}
-use Rattle.flat_text.specs.EquationNames.{operation_names, free_names, named}
+use Rattle.flat_text.specs.EquationNames.{operation_names, free_names, variables_under_names}
 use Rattle.flat_text.specs.NamesView.{AreNamesFor}
 use Rattle.flat_text.specs.WritingView.{HaveAtMost}
 
 pub longer_serve : (taken : List (List ℕ)) (most number : ℕ) (variables : List Variable) → length variables ≤ most
-    → named (free_names taken most number) variables ≡ named (free_names taken (length variables) number) variables
+    → variables_under_names (free_names taken most number) variables
+    ≡ variables_under_names (free_names taken (length variables) number) variables
 longer_serve taken zero number [] within = refl
 longer_serve taken zero number (x ∷ variables) within = absurd (omega (arith, within))
 longer_serve taken (suc most) number [] within = refl
@@ -42,7 +43,7 @@ one_made taken all names made name left from found next pushed spelled behind is
     ∙ so_far
 
 -- no variable is left
-pub all_named : (names : List (List ℕ)) (variables : List Variable) → variables ≡ [] → named names variables ≡ []
+pub all_named : (names : List (List ℕ)) (variables : List Variable) → variables ≡ [] → variables_under_names names variables ≡ []
 all_named [] variables e = refl
 all_named (name ∷ names) [] e = refl
 all_named (name ∷ names) (x ∷ variables) e = absurd (cc e)
@@ -52,6 +53,6 @@ pub names_serve : (flat : Flat) (names : List Name) (most : ℕ)
     → map spelling names ≡ free_names (operation_names (signature_of flat.signature)) most 1
     → HaveAtMost most flat.equations.items → AreNamesFor flat names
 names_serve flat names most made within i equation at =
-    ap (λ (ns : List (List ℕ)). named ns (map variable_of equation.variables.items)) made
+    ap (λ (ns : List (List ℕ)). variables_under_names ns (map variable_of equation.variables.items)) made
     ∙ longer_serve (operation_names (signature_of flat.signature)) most 1 (map variable_of equation.variables.items)
     (subst (λ (n : ℕ). n ≤ most) (sym (length-map equation.variables.items variable_of)) (within i equation at))

@@ -1,5 +1,5 @@
 -- Tables of names, and the least numbers that are found in them.
-use Rattle.std.proofs.Common.{◌≡◌, ◌+◌, ◌<◌, ◌≤◌, ◌^◌, ℕ, zero, suc, List, [], ◌∷◌, length, map, Bool, true, false, if◌then◌else◌, refl, ap, sym, ◌∙◌, inl, inr, arith}
+use Rattle.std.proofs.Common.{◌≡◌, ◌+◌, ◌<◌, ◌≤◌, ◌^◌, ℕ, suc, List, [], ◌∷◌, length, map, Bool, true, false, if◌then◌else◌, refl, ap, sym, ◌∙◌, inl, inr, arith}
 use Rattle.std.specs.Prelude.{◌⊎◌, ◌||◌, Some, is_some}
 use Rattle.std.specs.Char.{to_ascii_lowercase}
 use Rattle.std.specs.Str.{bytes_eq}
@@ -8,11 +8,12 @@ use Rattle.std.proofs.lemmas.List.{length-map}
 use Rattle.std.proofs.lemmas.Str.Ascii.{lowercase-lowercase}
 use Rattle.lotos_base.specs.Names.{folded}
 use Rattle.lotos_base.proofs.Bytes.{same_bytes, bytes_same}
+use Rattle.lotos_base.proofs.Numbers.{compared}
 use Rattle.scope_parts.specs.Scope.{Binding, bind, bound_to, is_bound}
 use Rattle.sort_terms.specs.ReadingOutcome.{one_name}
 use Rattle.flat_text.specs.FreeNames.{has_name, with_number, least_free}
 use Rattle.flat_text.specs.NameLaws.{IsLeastFree}
-use Rattle.flat_text.specs.WritingView.{HasNames, IsLeastUnbound}
+use Rattle.flat_text.specs.WritingView.{HasTheseNames, IsLeastUnbound}
 use Rattle.flat_text.proofs.NumberedNames.{enough, least_is_free}
 
 -- what is bound after one more name
@@ -24,18 +25,18 @@ bound_more name number bindings q = by (bytes_eq (folded q) (folded name))
     by true = refl
     by false = refl
 
-pub names_more : (name : List ℕ) (number : ℕ) (bindings : List Binding) (names : List (List ℕ)) → HasNames bindings names
-    → HasNames (bind name number bindings) (name ∷ names)
+pub names_more : (name : List ℕ) (number : ℕ) (bindings : List Binding) (names : List (List ℕ)) → HasTheseNames bindings names
+    → HasTheseNames (bind name number bindings) (name ∷ names)
 names_more name number bindings names has = record {
   same = λ q. bound_more name number bindings q ∙ ap (λ (b : Bool). one_name q name || b) (has.same q);
   as_many = ap suc has.as_many;
 }
 
-pub no_names : HasNames [] []
+pub no_names : HasTheseNames [] []
 no_names = record { same = λ q. refl; as_many = refl }
 
 -- The least number that is not bound is the least free one.
-pub unbound_free : (bindings : List Binding) (names : List (List ℕ)) (word : List ℕ) (number found : ℕ) → HasNames bindings names
+pub unbound_free : (bindings : List Binding) (names : List (List ℕ)) (word : List ℕ) (number found : ℕ) → HasTheseNames bindings names
     → IsLeastUnbound bindings word number found → IsLeastFree names word number found
 unbound_free bindings names word number found has least = record {
   from = least.from;
@@ -48,28 +49,17 @@ one_least : (names : List (List ℕ)) (word : List ℕ) (number one other : ℕ)
     → IsLeastFree names word number other → one < other → ⊥
 one_least names word number one other first second less = true≢false (sym (second.least one first.from less) ∙ first.free)
 
-order : (m n : ℕ) → (m < n) ⊎ ((n < m) ⊎ (m ≡ n))
-order zero zero = inr (inr refl)
-order zero (suc n) = inl (omega arith)
-order (suc m) zero = inr (inl (omega arith))
-order (suc m) (suc n) = by (order m n)
-  where
-    by : (m < n) ⊎ ((n < m) ⊎ (m ≡ n)) → (suc m < suc n) ⊎ ((suc n < suc m) ⊎ (suc m ≡ suc n))
-    by (inl less) = inl (omega (arith, less))
-    by (inr (inl more)) = inr (inl (omega (arith, more)))
-    by (inr (inr same)) = inr (inr (ap suc same))
-
 pub least_is_one : (names : List (List ℕ)) (word : List ℕ) (number one other : ℕ) → IsLeastFree names word number one
     → IsLeastFree names word number other → one ≡ other
-least_is_one names word number one other first second = by (order one other)
+least_is_one names word number one other first second = by (compared one other)
   where
-    by : (one < other) ⊎ ((other < one) ⊎ (one ≡ other)) → one ≡ other
+    by : (one < other) ⊎ ((one ≡ other) ⊎ (other < one)) → one ≡ other
     by (inl less) = absurd (one_least names word number one other first second less)
-    by (inr (inl more)) = absurd (one_least names word number other one second first more)
-    by (inr (inr same)) = same
+    by (inr (inl same)) = same
+    by (inr (inr more)) = absurd (one_least names word number other one second first more)
 
 -- What is found in a table of the taken names is the least free number.
-pub least_found : (bindings : List Binding) (names : List (List ℕ)) (word : List ℕ) (number found : ℕ) → HasNames bindings names
+pub least_found : (bindings : List Binding) (names : List (List ℕ)) (word : List ℕ) (number found : ℕ) → HasTheseNames bindings names
     → IsLeastUnbound bindings word number found → number + suc (length bindings) < 2 ^ 64 → found ≡ least_free names word number
 least_found bindings names word number found has least room =
     least_is_one names word number found (least_free names word number)
@@ -83,13 +73,13 @@ pub tried_before : (names : List (List ℕ)) (word : List ℕ) (first from found
 tried_before names word first from found tried low least = record {
   from = omega (arith, low, least.from);
   free = least.free;
-  least = λ k here there. by k here there (order k from);
+  least = λ k here there. by k here there (compared k from);
 }
   where
-    by : (k : ℕ) → first ≤ k → k < found → (k < from) ⊎ ((from < k) ⊎ (k ≡ from)) → has_name names (with_number word k) ≡ true
+    by : (k : ℕ) → first ≤ k → k < found → (k < from) ⊎ ((k ≡ from) ⊎ (from < k)) → has_name names (with_number word k) ≡ true
     by k here there (inl less) = tried k here less
-    by k here there (inr (inl more)) = least.least k (omega (arith, more)) there
-    by k here there (inr (inr same)) = least.least k (omega (arith, same)) there
+    by k here there (inr (inl same)) = least.least k (omega (arith, same)) there
+    by k here there (inr (inr more)) = least.least k (omega (arith, more)) there
 
 -- ---- Names that are bound one after another.
 
@@ -123,7 +113,7 @@ no_more : (b : Bool) → (b || false) ≡ b
 no_more true = refl
 no_more false = refl
 
-pub all_bound : (bindings : List Binding) (left all : List (List ℕ)) → HasAllBut bindings left all → left ≡ [] → HasNames bindings all
+pub all_bound : (bindings : List Binding) (left all : List (List ℕ)) → HasAllBut bindings left all → left ≡ [] → HasTheseNames bindings all
 all_bound bindings [] all has e = record {
   same = λ q. sym (no_more (is_bound bindings q)) ∙ has.same q;
   as_many = let counted : length bindings + 0 ≡ length all = has.as_many in omega (arith, counted);

@@ -2,7 +2,7 @@
 use Rattle.std.specs.Prelude.{ℕ, List, [], ◌∷◌, ◌++◌, map, Option, None, Some, codes}
 use Rattle.std.specs.List.{concat}
 use Rattle.lotos_base.specs.Signature.{Signature, Sort, Operation, Form, prefix_form, infix_form}
-use Rattle.lotos_base.specs.Sorting.{sort_of}
+use Rattle.lotos_base.specs.Sorting.{head_sort_of}
 use Rattle.lotos_base.specs.Equation.{Variable, Equation, Data}
 use Rattle.report_text.specs.HandedOn.{commas, sort_text, term_text}
 use Rattle.flat_text.specs.EquationNames.{renamed_variables}
@@ -52,7 +52,7 @@ sort_if_any signature (Some sort) = sort_text signature sort
 
 abbrev pub equation_line : Signature → Equation → List ℕ
 equation_line signature equation = let variables : List Variable = renamed_variables signature equation in line (
-    codes "ofsort " ++ sort_if_any signature (sort_of signature equation.left) ++ codes " " ++ for_all signature variables
+    codes "ofsort " ++ sort_if_any signature (head_sort_of signature equation.left) ++ codes " " ++ for_all signature variables
     ++ term_text signature variables equation.left ++ codes " = " ++ term_text signature variables equation.right ++ codes ";")
 
 abbrev pub equations_lines : Signature → List Equation → List ℕ

@@ -20,11 +20,12 @@ abbrev pub equation_names : Signature → ℕ → List (List ℕ)
 equation_names signature count = free_names (operation_names signature) count 1
 
 -- variables under these names
-abbrev pub named : List (List ℕ) → List Variable → List Variable
-named [] variables = []
-named (name ∷ names) [] = []
-named (name ∷ names) (x ∷ variables) = record { name = name; number = x.number; sort = x.sort } ∷ named names variables
+abbrev pub variables_under_names : List (List ℕ) → List Variable → List Variable
+variables_under_names [] variables = []
+variables_under_names (name ∷ names) [] = []
+variables_under_names (name ∷ names) (x ∷ variables) =
+    record { name = name; number = x.number; sort = x.sort } ∷ variables_under_names names variables
 
 -- the variables of an equation, which stand in the order of their first appearance, under such names
 abbrev pub renamed_variables : Signature → Equation → List Variable
-renamed_variables signature equation = named (equation_names signature (length equation.variables)) equation.variables
+renamed_variables signature equation = variables_under_names (equation_names signature (length equation.variables)) equation.variables

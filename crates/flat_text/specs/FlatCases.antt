@@ -16,14 +16,14 @@ abbrev pub operation_called : List ℕ → Form → List ℕ → ℕ → Operati
 operation_called name form arguments result =
     record { name = name; form = form; arguments = arguments; result = result; origin = codes "T" }
 
-abbrev pub constant : ℕ → Term
-constant operation = node operation no_terms
+abbrev pub applied_to_none : ℕ → Term
+applied_to_none operation = node operation no_terms
 
-abbrev pub applied : ℕ → Term → Term
-applied operation t = node operation (term_then t no_terms)
+abbrev pub applied_to_one : ℕ → Term → Term
+applied_to_one operation t = node operation (term_then t no_terms)
 
-abbrev pub between : ℕ → Term → Term → Term
-between operation t u = node operation (term_then t (term_then u no_terms))
+abbrev pub applied_to_two : ℕ → Term → Term → Term
+applied_to_two operation t u = node operation (term_then t (term_then u no_terms))
 
 abbrev pub x_of : ℕ → Variable
 x_of sort = record { name = codes "x"; number = 0; sort = sort }
@@ -31,8 +31,8 @@ x_of sort = record { name = codes "x"; number = 0; sort = sort }
 abbrev pub y_of : ℕ → Variable
 y_of sort = record { name = codes "y"; number = 1; sort = sort }
 
-abbrev pub equation_of_sides : List Variable → Term → Term → Equation
-equation_of_sides variables left right =
+abbrev pub equation_by_sides : List Variable → Term → Term → Equation
+equation_by_sides variables left right =
     record { place = record { text = 0; line = 1; column = 1 }; variables = variables; left = left; right = right }
 
 -- a specification `S` without gates and parameters
@@ -56,8 +56,8 @@ renamed_data = record {
         ∷ [];
   };
   equations =
-      equation_of_sides (x_of 0 ∷ []) (applied 1 (applied 1 (variable 0 0))) (applied 1 (variable 0 0))
-      ∷ equation_of_sides (x_of 1 ∷ []) (applied 3 (applied 3 (variable 0 1))) (applied 3 (variable 0 1))
+      equation_by_sides (x_of 0 ∷ []) (applied_to_one 1 (applied_to_one 1 (variable 0 0))) (applied_to_one 1 (variable 0 0))
+      ∷ equation_by_sides (x_of 1 ∷ []) (applied_to_one 3 (applied_to_one 3 (variable 0 1))) (applied_to_one 3 (variable 0 1))
       ∷ [];
 }
 
@@ -83,8 +83,9 @@ careful_data = record {
         ∷ [];
   };
   equations =
-      equation_of_sides (x_of 0 ∷ y_of 0 ∷ []) (between 1 (variable 0 0) (between 1 (variable 1 0) (constant 0))) (variable 1 0)
-      ∷ equation_of_sides [] (applied 3 (constant 0)) (constant 2)
+      equation_by_sides (x_of 0 ∷ y_of 0 ∷ []) (applied_to_two 1 (variable 0 0) (applied_to_two 1 (variable 1 0) (applied_to_none 0)))
+      (variable 1 0)
+      ∷ equation_by_sides [] (applied_to_one 3 (applied_to_none 0)) (applied_to_none 2)
       ∷ [];
 }
 
@@ -123,8 +124,8 @@ calling_specification = record {
   body = choice (call 0 (0 ∷ []) (variable 0 1 ∷ [])) (choice (call 1 [] []) (call 3 [] []));
   processes =
       process_called (codes "P") (2 ∷ []) (y_of 1 ∷ []) (Some (1 ∷ 0 ∷ []))
-      (action 2 (ask (x_of 0) ∷ give (variable 1 1) ∷ []) (Some (premiss (variable 0 0) (constant 0)))
-      (guard (premiss (variable 1 1) (constant 1)) stop))
+      (action 2 (ask (x_of 0) ∷ give (variable 1 1) ∷ []) (Some (premiss (variable 0 0) (applied_to_none 0)))
+      (guard (premiss (variable 1 1) (applied_to_none 1)) stop))
       ∷ process_called (codes "p") [] [] None stop
       ∷ process_called (codes "P_2") [] [] None (hide (1 ∷ []) stop)
       ∷ process_called (codes "P") [] [] (Some []) (call 1 [] [])

@@ -6,9 +6,9 @@ use Rattle.sort_terms.specs.EquationView.{equation_of, variable_of}
 use Rattle.sort_terms.specs.SignatureView.{signature_of}
 use Rattle.sort_terms.specs.declared.equations.Equation.{Equation}
 use Rattle.sort_terms.specs.declared.equations.Flat.{Flat}
-use Rattle.flat_text.specs.EquationNames.{named, renamed_variables}
+use Rattle.flat_text.specs.EquationNames.{variables_under_names, renamed_variables}
 
 abbrev pub AreNamesFor : Flat → List Name → Type 0
 AreNamesFor flat names = (i : ℕ) (equation : Equation) → slice_get flat.equations.items i ≡ Some equation
-    → named (map spelling names) (map variable_of equation.variables.items)
+    → variables_under_names (map spelling names) (map variable_of equation.variables.items)
     ≡ renamed_variables (signature_of flat.signature) (equation_of equation)

@@ -6,7 +6,7 @@ use Rattle.sort_terms.specs.declared.equations.Equation.{Equation}
 use Rattle.flat_text.specs.FreeNames.{has_name, with_number}
 
 -- The table has these names and no others, and as many entries as there are names.
-pub record HasNames (bindings : List Binding) (names : List (List ℕ)) : Type 0 where
+pub record HasTheseNames (bindings : List Binding) (names : List (List ℕ)) : Type 0 where
   pub same : (name : List ℕ) → is_bound bindings name ≡ has_name names name
   pub as_many : length bindings ≡ length names
 

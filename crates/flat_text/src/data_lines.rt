@@ -13,10 +13,10 @@ ghost use Rattle.flat_text.specs.DataText.{
   sorted_variable,
   sorts_lines,
 };
-ghost use Rattle.flat_text.specs.EquationNames.{named, renamed_variables};
+ghost use Rattle.flat_text.specs.EquationNames.{variables_under_names, renamed_variables};
 ghost use Rattle.flat_text.specs.NamesView.{AreNamesFor};
 ghost use Rattle.lotos_base.specs.Name.{spelling};
-ghost use Rattle.lotos_base.specs.Sorting.{sort_of as sort_of_term};
+ghost use Rattle.lotos_base.specs.Sorting.{head_sort_of as sort_of_term};
 ghost use Rattle.report_text.specs.HandedOn.{commas};
 ghost use Rattle.sort_terms.specs.EquationView.{data_of, equation_of, variable_of};
 ghost use Rattle.sort_terms.specs.Operations.{operation_of, sort_of};
@@ -144,7 +144,8 @@ fn push_equation(
     equation: &Equation,
     into: &mut Vec<u8>,
 ) -> Result<(), NoMemory>
-    requires { named (map spelling names.now.items) (map variable_of equation.now.variables.items)
+    requires { variables_under_names (map spelling names.now.items)
+        (map variable_of equation.now.variables.items)
         ≡ renamed_variables (signature_of signature.now) (equation_of equation.now) }
     ensures { OnOk result (into.new.items ≡ into.old.items ++ equation_line
         (signature_of signature.now) (equation_of equation.now)) }

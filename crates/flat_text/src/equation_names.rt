@@ -1,7 +1,7 @@
 //! The names that the variables of equations are given.
 
-ghost use Rattle.flat_text.specs.EquationNames.{free_names, named};
-ghost use Rattle.flat_text.specs.WritingView.{HasNames, HaveAtMost};
+ghost use Rattle.flat_text.specs.EquationNames.{free_names, variables_under_names};
+ghost use Rattle.flat_text.specs.WritingView.{HasTheseNames, HaveAtMost};
 ghost use Rattle.lotos_base.specs.Name.{spelling};
 ghost use Rattle.scope_parts.specs.BindingsView.{bindings_in};
 ghost use Rattle.sort_terms.specs.EquationView.{variable_of};
@@ -33,7 +33,7 @@ pub fn equation_names(alloc: Global, ops: &[Op], count: usize) -> Result<Vec<Nam
 
 // The names of the operations.
 fn names_of_operations(alloc: Global, ops: &[Op]) -> Result<Bindings, NoMemory>
-    ensures { IfOk result (λ table. HasNames (bindings_in table)
+    ensures { IfOk result (λ table. HasTheseNames (bindings_in table)
         (map (λ o. o.name) (map operation_of ops.now))) }
 {
     let mut names = Bindings::new(alloc);
@@ -61,7 +61,8 @@ pub fn renamed(
     variables: &Vec<Variable>,
 ) -> Result<Vec<Variable>, NoMemory>
     ensures { IfOk result (λ made. map variable_of made.items
-        ≡ named (map spelling names.now.items) (map variable_of variables.now.items)) }
+        ≡ variables_under_names (map spelling names.now.items)
+        (map variable_of variables.now.items)) }
 {
     let mut made = Vec::new(alloc);
     for (index, variable) in variables.iter().enumerate() {

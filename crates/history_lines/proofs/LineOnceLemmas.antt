@@ -1,6 +1,7 @@
 -- A line of a session comes to one thing at most.
 use Rattle.std.proofs.Common.{◌≡◌, ◌<◌, ◌≤◌, ℕ, Bool, true, false, List, [], ◌∷◌, ◌++◌, length, Option, None, Some, bytes_eq, refl, ap, sym, ◌∙◌, subst, arith}
 use Rattle.std.proofs.lemmas.Slice.Eq.{bytes_eq-Decides}
+use Rattle.std.proofs.lemmas.Bool.{true≢false}
 use Rattle.session_log.proofs.CourseLemmas.{situation_now}
 use Rattle.lotos_base.specs.Outside.{Texts, Puts}
 use Rattle.line_server.specs.Request.{Request, skip, show_menu, show_behaviour, show_trace, undo, leave, no_request, take_step, save, replay, show_normal, compare, list_values, list_instances}
@@ -13,7 +14,7 @@ use Rattle.session_log.proofs.HandedOn.{no_stop}
 use Rattle.session_log.specs.HandedOn.question_answers as questions
 use Rattle.value_lists.specs.ListLineLaws.{InstancesHaveOneAnswer, ValuesHaveOneAnswer}
 use Rattle.value_lists.specs.ListOutcome.{ListOutcome, EntryInstances}
-use Rattle.value_lists.specs.ListText.{instances_text, values_text}
+use Rattle.value_lists.specs.ListText.{instances_text, listed_values_text}
 use Rattle.lotos_base.specs.Term.{Term}
 use Rattle.history_lines.specs.OutcomeLaws.{IsLawfulStanding, AreAlike}
 use Rattle.history_lines.specs.Standing.{Standing, shown_trace}
@@ -23,10 +24,6 @@ use Rattle.history_lines.specs.ShelfAnswer.{trace_limit, refusal_in, HasPut, sav
 use Rattle.history_lines.specs.StepAnswer.{StepAnswer, took, declined}
 use Rattle.history_lines.specs.Answer.{after_step, undone_text, UndoComesTo, is_undone, is_at_start, RequestComesTo}
 use Rattle.history_lines.proofs.StepOnceLemmas.{IsReady, step_once}
-
--- a fault is none
-not_none : true ≡ false → ⊥
-not_none e = cc e
 
 -- ---- Undo
 
@@ -57,8 +54,8 @@ puts_once told one other name bytes h k = λ i key. by key (bytes_eq key name) r
         let same : key ≡ name = (bytes_eq-Decides key name).0 e in
         ap one same ∙ (h.stored ∙ (sym k.stored ∙ sym (ap other same)))
     by key false e =
-        h.others key (λ same. not_none (sym ((bytes_eq-Decides key name).1 same) ∙ e))
-        ∙ sym (k.others key (λ same. not_none (sym ((bytes_eq-Decides key name).1 same) ∙ e)))
+        h.others key (λ same. true≢false (sym ((bytes_eq-Decides key name).1 same) ∙ e))
+        ∙ sym (k.others key (λ same. true≢false (sym ((bytes_eq-Decides key name).1 same) ∙ e)))
 
 put_once : (before one other : Option Texts) (told : Texts) (name bytes : List ℕ) → before ≡ Some told → HasPut before one name bytes
     → HasPut before other name bytes → one ≡ other
@@ -74,13 +71,13 @@ long_and_short limit count long short = absurd (omega (arith, long, short))
 save_once : (standing : Standing) (told : Texts) (name : List ℕ) → standing.texts ≡ Some told → (one other : Befallen)
     → SaveComesTo standing name one → SaveComesTo standing name other → one.faulty ≡ false → other.faulty ≡ false → one ≡ other
 save_once standing told name tells _ _ (is_too_long long) (is_too_long other) f g = refl
-save_once standing told name tells _ _ (is_too_long long) (is_unwritten after short may) f g = absurd (not_none g)
+save_once standing told name tells _ _ (is_too_long long) (is_unwritten after short may) f g = absurd (true≢false g)
 save_once standing told name tells _ _ (is_too_long long) (is_saved after short put) f g =
     absurd (long_and_short trace_limit (length (shown_trace standing.basis standing.progress)) long short)
-save_once standing told name tells _ _ (is_unwritten after short may) other f g = absurd (not_none f)
+save_once standing told name tells _ _ (is_unwritten after short may) other f g = absurd (true≢false f)
 save_once standing told name tells _ _ (is_saved after short put) (is_too_long long) f g =
     absurd (long_and_short trace_limit (length (shown_trace standing.basis standing.progress)) long short)
-save_once standing told name tells _ _ (is_saved after short put) (is_unwritten other short' may) f g = absurd (not_none g)
+save_once standing told name tells _ _ (is_saved after short put) (is_unwritten other short' may) f g = absurd (true≢false g)
 save_once standing told name tells _ _ (is_saved after short put) (is_saved other short' put') f g =
     ap (λ (it : Option Texts). says (with_texts standing it) (saved_text name))
     (put_once standing.texts after other told name (shown_trace standing.basis standing.progress) tells put put')
@@ -126,22 +123,22 @@ module _ (exact : ReplayIsExact) (standing : Standing) (told : Texts) (name : Li
 
   replay_once : (one other : Befallen) → ReplayComesTo standing name one → ReplayComesTo standing name other → one.faulty ≡ false
       → other.faulty ≡ false → one ≡ other
-  replay_once _ _ is_failed other f g = absurd (not_none f)
-  replay_once _ _ (is_missing missing) is_failed f g = absurd (not_none g)
+  replay_once _ _ is_failed other f g = absurd (true≢false f)
+  replay_once _ _ (is_missing missing) is_failed f g = absurd (true≢false g)
   replay_once _ _ (is_missing missing) (is_missing missing') f g = refl
   replay_once _ _ (is_missing missing) (is_long text stands long) f g = absurd (not_missing standing.texts name text missing stands)
   replay_once _ _ (is_missing missing) (is_refused text refusal stands short is) f g =
       absurd (not_missing standing.texts name text missing stands)
   replay_once _ _ (is_missing missing) (is_replayed text new stands short is) f g =
       absurd (not_missing standing.texts name text missing stands)
-  replay_once _ _ (is_long text stands long) is_failed f g = absurd (not_none g)
+  replay_once _ _ (is_long text stands long) is_failed f g = absurd (true≢false g)
   replay_once _ _ (is_long text stands long) (is_missing missing) f g = absurd (not_missing standing.texts name text missing stands)
   replay_once _ _ (is_long text stands long) (is_long text' stands' long') f g = refl
   replay_once _ _ (is_long text stands long) (is_refused text' refusal stands' short is) f g =
       absurd (length_once text text' stands stands' long short)
   replay_once _ _ (is_long text stands long) (is_replayed text' new stands' short is) f g =
       absurd (length_once text text' stands stands' long short)
-  replay_once _ _ (is_refused text refusal stands short is) is_failed f g = absurd (not_none g)
+  replay_once _ _ (is_refused text refusal stands short is) is_failed f g = absurd (true≢false g)
   replay_once _ _ (is_refused text refusal stands short is) (is_missing missing) f g =
       absurd (not_missing standing.texts name text missing stands)
   replay_once _ _ (is_refused text refusal stands short is) (is_long text' stands' long) f g =
@@ -151,7 +148,7 @@ module _ (exact : ReplayIsExact) (standing : Standing) (told : Texts) (name : Li
       (same_stop refusal refusal' (come_once text text' (stops refusal) (stops refusal') stands stands' is is'))
   replay_once _ _ (is_refused text refusal stands short is) (is_replayed text' new stands' short' is') f g =
       absurd (no_stop new refusal (come_once text' text (goes_on new) (stops refusal) stands' stands is' is))
-  replay_once _ _ (is_replayed text new stands short is) is_failed f g = absurd (not_none g)
+  replay_once _ _ (is_replayed text new stands short is) is_failed f g = absurd (true≢false g)
   replay_once _ _ (is_replayed text new stands short is) (is_missing missing) f g =
       absurd (not_missing standing.texts name text missing stands)
   replay_once _ _ (is_replayed text new stands short is) (is_long text' stands' long) f g =
@@ -205,7 +202,7 @@ module _ (follow : SessionsFollowDerivations) (stay : SessionsStayLawful) (steps
       ∙ sym k.2)
   line_once standing told (list_values name size) one other lawful tells h k f g =
       h.2
-      ∙ (ap (λ (it : ListOutcome (List Term)). says standing (values_text standing.basis it))
+      ∙ (ap (λ (it : ListOutcome (List Term)). says standing (listed_values_text standing.basis it))
       (values standing.basis name size h.0 k.0 lawful.over.signature h.1 k.1)
       ∙ sym k.2)
   line_once standing told (list_instances number size) one other lawful tells h k f g =
@@ -218,35 +215,35 @@ module _ (follow : SessionsFollowDerivations) (stay : SessionsStayLawful) (steps
 
 -- what is said without a fault has none
 said_well : (standing : Standing) (it said : Befallen) → it ≡ said → said.faulty ≡ false → it.faulty ≡ true → ⊥
-said_well standing it said same well f = not_none (sym f ∙ (ap (λ (it : Befallen). it.faulty) same ∙ well))
+said_well standing it said same well f = true≢false (sym f ∙ (ap (λ (it : Befallen). it.faulty) same ∙ well))
 
 step_well : (standing : Standing) (answer : StepAnswer) → (after_step standing answer).faulty ≡ false
 step_well standing (took label new) = refl
 step_well standing (declined refusal) = refl
 
 undo_well : (standing : Standing) (it : Befallen) → UndoComesTo standing it → it.faulty ≡ true → ⊥
-undo_well standing _ (is_undone new h) f = not_none (sym f)
-undo_well standing _ (is_at_start e) f = not_none (sym f)
+undo_well standing _ (is_undone new h) f = true≢false (sym f)
+undo_well standing _ (is_at_start e) f = true≢false (sym f)
 
 save_failed : (standing : Standing) (name : List ℕ) (one other : Befallen) → SaveComesTo standing name one → SaveComesTo standing name other
     → one.faulty ≡ true → other.faulty ≡ true → AreAlike standing one other
-save_failed standing name _ _ (is_too_long long) other f g = absurd (not_none (sym f))
-save_failed standing name _ _ (is_saved after short put) other f g = absurd (not_none (sym f))
-save_failed standing name _ _ (is_unwritten after short may) (is_too_long long) f g = absurd (not_none (sym g))
-save_failed standing name _ _ (is_unwritten after short may) (is_saved other short' put) f g = absurd (not_none (sym g))
+save_failed standing name _ _ (is_too_long long) other f g = absurd (true≢false (sym f))
+save_failed standing name _ _ (is_saved after short put) other f g = absurd (true≢false (sym f))
+save_failed standing name _ _ (is_unwritten after short may) (is_too_long long) f g = absurd (true≢false (sym g))
+save_failed standing name _ _ (is_unwritten after short may) (is_saved other short' put) f g = absurd (true≢false (sym g))
 save_failed standing name _ _ (is_unwritten after short may) (is_unwritten other short' may') f g =
     record { text = refl; quits = refl; basis = refl; progress = refl }
 
 replay_failed : (standing : Standing) (name : List ℕ) (one other : Befallen) → ReplayComesTo standing name one
     → ReplayComesTo standing name other → one.faulty ≡ true → other.faulty ≡ true → AreAlike standing one other
-replay_failed standing name _ _ (is_missing missing) other f g = absurd (not_none (sym f))
-replay_failed standing name _ _ (is_long text stands long) other f g = absurd (not_none (sym f))
-replay_failed standing name _ _ (is_refused text refusal stands short is) other f g = absurd (not_none (sym f))
-replay_failed standing name _ _ (is_replayed text new stands short is) other f g = absurd (not_none (sym f))
-replay_failed standing name _ _ is_failed (is_missing missing) f g = absurd (not_none (sym g))
-replay_failed standing name _ _ is_failed (is_long text stands long) f g = absurd (not_none (sym g))
-replay_failed standing name _ _ is_failed (is_refused text refusal stands short is) f g = absurd (not_none (sym g))
-replay_failed standing name _ _ is_failed (is_replayed text new stands short is) f g = absurd (not_none (sym g))
+replay_failed standing name _ _ (is_missing missing) other f g = absurd (true≢false (sym f))
+replay_failed standing name _ _ (is_long text stands long) other f g = absurd (true≢false (sym f))
+replay_failed standing name _ _ (is_refused text refusal stands short is) other f g = absurd (true≢false (sym f))
+replay_failed standing name _ _ (is_replayed text new stands short is) other f g = absurd (true≢false (sym f))
+replay_failed standing name _ _ is_failed (is_missing missing) f g = absurd (true≢false (sym g))
+replay_failed standing name _ _ is_failed (is_long text stands long) f g = absurd (true≢false (sym g))
+replay_failed standing name _ _ is_failed (is_refused text refusal stands short is) f g = absurd (true≢false (sym g))
+replay_failed standing name _ _ is_failed (is_replayed text new stands short is) f g = absurd (true≢false (sym g))
 replay_failed standing name _ _ is_failed is_failed f g = record { text = refl; quits = refl; basis = refl; progress = refl }
 
 pub line_failed : (standing : Standing) (request : Request) (one other : Befallen) → RequestComesTo standing request one

@@ -1,5 +1,6 @@
 -- The lines of a text have one report.
-use Rattle.std.proofs.Common.{◌≡◌, ℕ, true, false, List, [], ◌∷◌, ◌++◌, Option, None, Some, refl, ap, sym, ◌∙◌, subst}
+use Rattle.std.proofs.Common.{◌≡◌, ℕ, false, List, [], ◌∷◌, ◌++◌, Option, None, Some, refl, ap, sym, ◌∙◌, subst}
+use Rattle.std.proofs.lemmas.Bool.{true≢false}
 use Rattle.lotos_base.specs.Outside.{Texts}
 use Rattle.line_server.specs.Request.{Request, skip, show_menu, show_behaviour, show_trace, undo, leave, no_request, take_step, save, replay, show_normal, compare, list_values, list_instances, request_of}
 use Rattle.session_log.specs.HandedOn.{SessionBasis, Situation, first_situation, IsLawful, IsStateOver}
@@ -84,9 +85,6 @@ reached_lawful begun standing can h = record {
   lawful = subst (λ (it : SessionBasis). IsLawful it standing.progress) (sym h.basis) h.lawful;
 }
 
-goes_and_quits : true ≡ false → ⊥
-goes_and_quits e = cc e
-
 module _ (laws : LinesComeToOneThing) (begun : Beginning) (can : CanBegin begun) where
   same_answer : (standing : Standing) (line : List ℕ) (one other : Befallen) → IsReached begun standing → Tells standing.texts
       → RequestComesTo standing (request_of line) one → RequestComesTo standing (request_of line) other → one.faulty ≡ false
@@ -106,10 +104,10 @@ module _ (laws : LinesComeToOneThing) (begun : Beginning) (can : CanBegin begun)
       )
   one_report standing _ _ (line ∷ lines) _ _ reached tells (last_answered _ _ _ it h q) (one_answered _ last' _ _ it' text' h' q' rest') =
       let same : it ≡ it' = same_answer standing line it it' reached tells h.comes h'.comes h.steady h'.steady in
-      absurd (goes_and_quits (sym q ∙ (ap (λ (it : Befallen). it.reply.quits) same ∙ q')))
+      absurd (true≢false (sym q ∙ (ap (λ (it : Befallen). it.reply.quits) same ∙ q')))
   one_report standing _ _ (line ∷ lines) _ _ reached tells (one_answered _ last _ _ it text h q rest) (last_answered _ _ _ it' h' q') =
       let same : it ≡ it' = same_answer standing line it it' reached tells h.comes h'.comes h.steady h'.steady in
-      absurd (goes_and_quits (sym q' ∙ (ap (λ (it : Befallen). it.reply.quits) (sym same) ∙ q)))
+      absurd (true≢false (sym q' ∙ (ap (λ (it : Befallen). it.reply.quits) (sym same) ∙ q)))
   one_report standing _ _ (line ∷ lines) _ _ reached tells (one_answered _ last _ _ it text h q rest)
       (one_answered _ last' _ _ it' text' h' q' rest') =
       let same : it ≡ it' = same_answer standing line it it' reached tells h.comes h'.comes h.steady h'.steady in

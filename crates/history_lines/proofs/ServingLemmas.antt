@@ -8,10 +8,10 @@ use Rattle.line_server.specs.RequestLaws.{Carries}
 use Rattle.line_server.specs.Request.{Request, take_step, undo, leave, show_normal, compare, list_values, list_instances}
 use Rattle.history_lines.specs.Standing.{Standing}
 use Rattle.history_lines.specs.CommandRefusal.{CommandRefusal, command_refusal_text}
-use Rattle.history_lines.specs.Befallen.{Befallen, says, says_faulty, leaves, come_to}
+use Rattle.history_lines.specs.Befallen.{Befallen, says, says_faulty, leaves_session, come_to}
 use Rattle.session_log.specs.HandedOn.{IsNormalAnswer, IsComparison, normal_text, comparison_text, AddsOutcome, SessionBasis, HasUndone}
 use Rattle.value_lists.specs.ListOutcome.{ValuesComeTo, InstancesComeTo}
-use Rattle.value_lists.specs.ListText.{values_text, instances_text}
+use Rattle.value_lists.specs.ListText.{listed_values_text, instances_text}
 use Rattle.value_lists.specs.ListView.{AddsList}
 use Rattle.session_log.specs.Courses.{IsUndone}
 use Rattle.history_lines.specs.StepAnswer.{took, declined, StepComesTo}
@@ -146,7 +146,7 @@ left_alone {T} {E} result before faults items is =
     (λ (line : T). GivesAnswer (moment_of before faults) leave (items line) (moment_of before faults))
     (λ (e : E). IsBeforeOrBehind (moment_of before faults) leave (moment_of before faults))
     (λ line printed.
-    record { it = leaves before; comes = refl; printed = printed; next = refl; quits = refl; counted = refl })
+    record { it = leaves_session before; comes = refl; printed = printed; next = refl; quits = refl; counted = refl })
     (λ e. inl (is_as_before before before faults faults refl refl)) is
 
 -- a question of which the answer was added
@@ -167,16 +167,16 @@ said_comparison before after faults terms start text none same adds =
 
 -- a list that was added
 pub said_values : {T E : Type 0} (result : Result T E) (before : Standing) (faults : ℕ) (items : T → List ℕ) (name : List ℕ) (size : ℕ)
-    → IfOk result (λ (line : T). AddsList (ValuesComeTo before.basis name size) (values_text before.basis) [] (items line))
+    → IfOk result (λ (line : T). AddsList (ValuesComeTo before.basis name size) (listed_values_text before.basis) [] (items line))
     → MatchResult result
     (λ (line : T). GivesAnswer (moment_of before faults) (list_values name size) (items line) (moment_of before faults))
     (λ _. IsBeforeOrBehind (moment_of before faults) (list_values name size) (moment_of before faults))
 said_values {T} {E} result before faults items name size is =
-    either_way result (λ (line : T). AddsList (ValuesComeTo before.basis name size) (values_text before.basis) [] (items line))
+    either_way result (λ (line : T). AddsList (ValuesComeTo before.basis name size) (listed_values_text before.basis) [] (items line))
     (λ (line : T). GivesAnswer (moment_of before faults) (list_values name size) (items line) (moment_of before faults))
     (λ (e : E). IsBeforeOrBehind (moment_of before faults) (list_values name size) (moment_of before faults))
     (λ line adds.
-    gives_said before before before faults faults (list_values name size) (items line) (values_text before.basis adds.0)
+    gives_said before before before faults faults (list_values name size) (items line) (listed_values_text before.basis adds.0)
     (adds.0, adds.1, refl) refl adds.2 refl refl)
     (λ e. inl (is_as_before before before faults faults refl refl)) is
 

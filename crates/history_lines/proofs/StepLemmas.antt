@@ -3,7 +3,7 @@ use Rattle.std.proofs.Common.{◌≡◌, ℕ, List, length, Option, Some, refl, 
 use Rattle.behaviour_semantics.proofs.SupplyLemmas.{length-values}
 use Rattle.session_log.proofs.ReplayLemmas.{read_values}
 use Rattle.lotos_base.specs.WrittenTerm.{WrittenTerm}
-use Rattle.session_log.specs.HandedOn.{IsTermsFault, ReadFault, bad_term, AreTerms, Refusal, BadCommand, BadTerm, CodeNoMemory as NoMemory}
+use Rattle.session_log.specs.HandedOn.{IsTermsFault, ReadFault, bad_term, AreTermsOfLine, Refusal, BadCommand, BadTerm, CodeNoMemory as NoMemory}
 use Rattle.session_log.specs.HandedOn.{SessionBasis, Progress, StepRefusal, entry_numbered, count_refusal, number_refusal}
 use Rattle.session_log.specs.HandedOn.{condition_refusal, value_refusal, step_refusal, AreRead}
 use Rattle.session_log.specs.HandedOn.read_faults as fault
@@ -37,7 +37,7 @@ module _ (basis : SessionBasis) (progress : Progress) (number : ℕ) (text : Lis
   unread (fault.TooDeep place) is = is_unread 105 (fault.TooDeep place, is, (λ none. absurd (cc none)), refl)
   unread fault.NoMemory is = tt
 
-  module _ (terms : List WrittenTerm) (are : AreTerms text terms) where
+  module _ (terms : List WrittenTerm) (are : AreTermsOfLine text terms) where
     miscounted_for : (why : StepRefusal) → number_refusal progress.situation.menu number (length terms) ≡ Some why
         → StepComesTo basis progress number text (declined (no_step why))
     miscounted_for why e = is_miscounted terms why are e

@@ -2,7 +2,7 @@
 use Rattle.std.proofs.Common.{◌≡◌, ◌⊎◌, inl, inr, ℕ, List, [], ◌∷◌, length, Option, None, Some, refl, ap, sym, ◌∙◌, subst}
 use Rattle.lotos_base.proofs.Options.{none_and_some}
 use Rattle.lotos_base.specs.WrittenTerm.{WrittenTerm}
-use Rattle.session_log.specs.HandedOn.{TextsHaveOneOutcome, NoMemory, bad_term, term_number, fault_number, AreTerms, AreUnread}
+use Rattle.session_log.specs.HandedOn.{TextsHaveOneOutcome, NoMemory, bad_term, term_number, fault_number, AreTermsOfLine, AreUnread}
 use Rattle.session_log.specs.HandedOn.{SessionBasis, Progress, StepRefusal, entry_numbered, number_refusal, count_refusal}
 use Rattle.session_log.specs.HandedOn.{condition_refusal, IsSituation, HasStepped, AreRead, IsStateOver, StepsAreExact}
 use Rattle.lotos_base.specs.Signature.{Signature}
@@ -40,10 +40,10 @@ turn_once {A} Stops Goes Next one_why apart one_way next one other (inr h) (inr 
 -- ---- Texts
 
 module _ (texts : TextsHaveOneOutcome) (text : List ℕ) where
-  same_terms : (terms others : List WrittenTerm) → AreTerms text terms → AreTerms text others → terms ≡ others
+  same_terms : (terms others : List WrittenTerm) → AreTermsOfLine text terms → AreTermsOfLine text others → terms ≡ others
   same_terms terms others = texts.terms.one_tree 0 text terms others
 
-  not_unread : (terms : List WrittenTerm) (number : ℕ) → AreTerms text terms → AreUnread text number → ⊥
+  not_unread : (terms : List WrittenTerm) (number : ℕ) → AreTermsOfLine text terms → AreUnread text number → ⊥
   not_unread terms number are unread = unread.2 (texts.terms.not_both 0 text terms unread.0 are unread.1)
 
   same_number : (number other : ℕ) → AreUnread text number → AreUnread text other → number ≡ other
@@ -144,7 +144,7 @@ module _ (basis : SessionBasis) (progress : Progress) (number : ℕ) (text : Lis
   IsUnread why = (fault : ℕ) × AreUnread text fault × (why ≡ ill_formed (bad_term fault))
 
   abbrev Parsing : StepAnswer → Type 0
-  Parsing = Turn IsUnread (AreTerms text) Counting
+  Parsing = Turn IsUnread (AreTermsOfLine text) Counting
 
   in_turn : (answer : StepAnswer) → StepComesTo basis progress number text answer → Parsing answer
   in_turn _ (is_unread fault is) = inl (ill_formed (bad_term fault), (fault, is, refl), refl)
@@ -233,7 +233,7 @@ module _ (texts : TextsHaveOneOutcome) (readings : ReadingComesToOneThing) (step
   pub step_once : (one other : StepAnswer) → StepComesTo basis progress number text one → StepComesTo basis progress number text other
       → one ≡ other
   step_once one other h k =
-      turn_once (IsUnread basis progress number text) (AreTerms text) (Counting basis progress number text)
+      turn_once (IsUnread basis progress number text) (AreTermsOfLine text) (Counting basis progress number text)
       (λ why other h k. h.2
       ∙ (ap (λ (it : ℕ). ill_formed (bad_term it)) (same_number texts text h.0 k.0 h.1 k.1) ∙ sym k.2))
       (λ why terms h k. not_unread texts text terms h.0 k h.1)

@@ -6,10 +6,10 @@ use Rattle.line_server.specs.Request.{Request, skip, show_menu, show_behaviour, 
 use Rattle.session_log.specs.HandedOn.{QuestionOutcome, IsNormalAnswer, IsComparison, normal_text, comparison_text, bad_command}
 use Rattle.session_log.specs.HandedOn.{SessionBasis, Progress, HasUndone, shown_label}
 use Rattle.value_lists.specs.ListOutcome.{ListOutcome, EntryInstances, ValuesComeTo, InstancesComeTo}
-use Rattle.value_lists.specs.ListText.{values_text, instances_text}
+use Rattle.value_lists.specs.ListText.{listed_values_text, instances_text}
 use Rattle.history_lines.specs.Standing.{Standing, shown_menu, state_line, shown_trace}
 use Rattle.history_lines.specs.CommandRefusal.{ill_formed}
-use Rattle.history_lines.specs.Befallen.{Befallen, says, leaves, come_to}
+use Rattle.history_lines.specs.Befallen.{Befallen, says, leaves_session, come_to}
 use Rattle.history_lines.specs.StepAnswer.{StepAnswer, took, declined, StepComesTo}
 use Rattle.history_lines.specs.ShelfAnswer.{refusal_in, SaveComesTo, ReplayComesTo}
 
@@ -51,12 +51,12 @@ RequestComesTo standing (show_normal terms) it =
     × (it ≡ says standing (normal_text standing.basis.data_.signature outcome))
 RequestComesTo standing (list_values name size) it =
     (outcome : ListOutcome (List Term)) × ValuesComeTo standing.basis name size outcome
-    × (it ≡ says standing (values_text standing.basis outcome))
+    × (it ≡ says standing (listed_values_text standing.basis outcome))
 RequestComesTo standing (list_instances number size) it =
     (outcome : ListOutcome EntryInstances) × InstancesComeTo standing.basis standing.progress.situation.menu number size outcome
     × (it ≡ says standing (instances_text standing.basis number outcome))
 RequestComesTo standing show_behaviour it = it ≡ says standing (state_line standing.basis standing.progress)
-RequestComesTo standing leave it = it ≡ leaves standing
+RequestComesTo standing leave it = it ≡ leaves_session standing
 RequestComesTo standing no_request it = it ≡ says standing (refusal_in standing (ill_formed bad_command))
 
 -- what a line comes to

@@ -2,12 +2,12 @@
 use Rattle.std.specs.Prelude.{◌≡◌, ℕ, List, [], Option, None, Some, codes}
 use Rattle.lotos_base.specs.Outside.{Texts}
 use Rattle.behaviour_semantics.specs.Behaviour.{stop}
-use Rattle.session_log.specs.HandedOn.{bad_command, bad_term, opened, no_entry, value_count, unmet, LineRefusal, bad_line, step_refused}
+use Rattle.session_log.specs.HandedOn.{bad_command, bad_term, opened_progress, no_entry, value_count, unmet, LineRefusal, bad_line, step_refused}
 use Rattle.session_log.specs.HandedOn.{label_differs, state_differs, in_line, other_specification, small_basis, small_signature, small_menu}
-use Rattle.session_log.specs.HandedOn.{falsehood, truth}
+use Rattle.session_log.specs.HandedOn.{small_falsehood, small_truth}
 use Rattle.history_lines.specs.CommandRefusal.{CommandRefusal, ill_formed, no_step, unread, unwritten, trace_too_long, no_replay, command_refusal_text}
 use Rattle.history_lines.specs.Standing.{Standing}
-use Rattle.history_lines.specs.Befallen.{Befallen, says, says_faulty, leaves}
+use Rattle.history_lines.specs.Befallen.{Befallen, says, says_faulty, leaves_session}
 use Rattle.line_server.specs.Request.{replay}
 use Rattle.history_lines.specs.Answer.{RequestComesTo, LineComesTo}
 
@@ -23,7 +23,7 @@ pub record RefusalsHaveLines : Type 0 where
   pub entry : PrintsRefusal (no_step (no_entry 5 1)) (codes "refused 802 NoEntry 5 of 1\n")
   pub count : PrintsRefusal (no_step (value_count 1 0)) (codes "refused 803 ValueCount wanted 1 given 0\n")
   pub term : PrintsRefusal (ill_formed (bad_term 211)) (codes "refused 804 BadTerm 211\n")
-  pub condition : PrintsRefusal (no_step (unmet falsehood truth)) (codes "refused 806 Unmet false is not true\n")
+  pub condition : PrintsRefusal (no_step (unmet small_falsehood small_truth)) (codes "refused 806 Unmet false is not true\n")
   pub text : PrintsRefusal (unread (codes "t u")) (codes "refused 807 Unread t u\n")
   pub shelf : PrintsRefusal (unwritten (codes "t")) (codes "refused 808 Unwritten t\n")
   pub trace : PrintsRefusal (trace_too_long (codes "t")) (codes "refused 809 TraceTooLong t\n")
@@ -39,13 +39,14 @@ pub record RefusalsHaveLines : Type 0 where
       (codes "refused 814 StateDiffers line 3 kept stop found h !0; stop\n")
   pub step : PrintsRefusal (replay_stopped 2 (step_refused (no_entry 5 1))) (codes "refused 812 Step line 2 802\n")
   pub step_count : PrintsRefusal (replay_stopped 3 (step_refused (value_count 1 0))) (codes "refused 812 Step line 3 803\n")
-  pub step_condition : PrintsRefusal (replay_stopped 4 (step_refused (unmet falsehood truth))) (codes "refused 812 Step line 4 806\n")
+  pub step_condition : PrintsRefusal (replay_stopped 4 (step_refused (unmet small_falsehood small_truth)))
+      (codes "refused 812 Step line 4 806\n")
 
 -- a session at its start, over a shelf without texts, and one over a shelf that does not tell them
 abbrev pub at_start : Option Texts → Standing
 at_start texts = record {
   basis = small_basis;
-  progress = opened (record { state = stop; menu = small_menu });
+  progress = opened_progress (record { state = stop; menu = small_menu });
   texts = texts;
 }
 
@@ -68,7 +69,7 @@ pub record CommandsComeTo : Type 0 where
   pub show : IsPrintedAnswer (codes "show\r") (says small_start (codes "stop\n"))
   pub trace : IsPrintedAnswer (codes "trace") (says small_start (codes "lotos-trace 2 S\n"))
   pub undo_ : IsPrintedAnswer (codes "undo") (says small_start (codes "nothing to undo\n"))
-  pub quit : IsPrintedAnswer (codes "quit") (leaves small_start)
+  pub quit : IsPrintedAnswer (codes "quit") (leaves_session small_start)
   pub other : IsPrintedAnswer (codes "jump") (says small_start (codes "refused 801 BadCommand\n"))
   pub leading_zero : IsPrintedAnswer (codes "step 01") (says small_start (codes "refused 801 BadCommand\n"))
   pub missing : RequestComesTo small_start (replay (codes "t u")) (says small_start (codes "refused 807 Unread t u\n"))

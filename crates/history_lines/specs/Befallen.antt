@@ -18,8 +18,8 @@ abbrev pub says_faulty : Standing → List ℕ → Befallen
 says_faulty next text = record { reply = record { text = text; next = next; quits = false }; faulty = true }
 
 -- nothing is printed, and the session ends here
-abbrev pub leaves : Standing → Befallen
-leaves standing = record { reply = record { text = []; next = standing; quits = true }; faulty = false }
+abbrev pub leaves_session : Standing → Befallen
+leaves_session standing = record { reply = record { text = []; next = standing; quits = true }; faulty = false }
 
 -- the session has come so far, or the shelf has these texts
 abbrev pub come_to : Standing → Progress → Standing

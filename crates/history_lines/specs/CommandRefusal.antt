@@ -2,7 +2,7 @@
 -- is to be told of it.
 use Rattle.std.specs.Prelude.{ℕ, List, ◌++◌, codes, decimal}
 use Rattle.lotos_base.specs.Signature.{Signature}
-use Rattle.session_log.specs.HandedOn.{entry_term_text, QuestionRefusal, refusal_text, StepRefusal, no_entry, value_count, value_sort}
+use Rattle.session_log.specs.HandedOn.{entry_term_text, QuestionRefusal, question_refusal_text, StepRefusal, no_entry, value_count, value_sort}
 use Rattle.session_log.specs.HandedOn.{unmet, LineRefusal, bad_line, step_refused, label_differs, state_differs, ReplayRefusal, in_line}
 use Rattle.session_log.specs.HandedOn.{other_specification}
 
@@ -53,7 +53,7 @@ replay_refusal_text name (other_specification kept) =
 
 -- the line of a refusal
 abbrev pub command_refusal_text : Signature → CommandRefusal → List ℕ
-command_refusal_text signature (ill_formed refusal) = refusal_text refusal
+command_refusal_text signature (ill_formed refusal) = question_refusal_text refusal
 command_refusal_text signature (no_step refusal) = step_refusal_text signature refusal
 command_refusal_text signature (unread name) = codes "refused 807 Unread " ++ name ++ codes "\n"
 command_refusal_text signature (unwritten name) = codes "refused 808 Unwritten " ++ name ++ codes "\n"

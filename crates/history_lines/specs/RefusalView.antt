@@ -1,7 +1,7 @@
 -- The refusals that those of the code stand for, and the lines that are added for them.
 use Rattle.std.specs.Prelude.{◌≡◌, ℕ, List, ◌++◌, Option, None, Some, IsSomeAnd}
 use Rattle.lotos_base.specs.Signature.{Signature}
-use Rattle.session_log.specs.HandedOn.{ReadFault, refused_for_text, refusal_of, ReplayRefusal, in_line, other_specification, bad_line}
+use Rattle.session_log.specs.HandedOn.{ReadFault, refused_for_text, question_refusal_of, ReplayRefusal, in_line, other_specification, bad_line}
 use Rattle.session_log.specs.HandedOn.{step_refused, label_differs, state_differs}
 use Rattle.session_log.specs.HandedOn.step_refusals as plain
 use Rattle.session_log.specs.HandedOn.question_refusals as questions
@@ -25,7 +25,7 @@ for_step None = None
 for_step (Some refusal) = Some (no_step refusal)
 
 abbrev pub decline_of : Decline → Option CommandRefusal
-decline_of (Terms refusal) = for_terms (refusal_of refusal)
+decline_of (Terms refusal) = for_terms (question_refusal_of refusal)
 decline_of (Step refusal) = for_step (step_refusal_of refusal)
 
 -- the refusal for a fault of a text
@@ -50,16 +50,16 @@ abbrev pub at_line : ℕ → Option plain.StepRefusal → Option ReplayRefusal
 at_line line None = None
 at_line line (Some refusal) = Some (in_line line (step_refused refusal))
 
-abbrev pub fault_of : ReplayFault → Option ReplayRefusal
-fault_of (replay.BadLine line) = Some (in_line line bad_line)
-fault_of (replay.OtherSpecification kept) = Some (other_specification kept.items)
-fault_of (replay.LabelDiffers line kept found) = Some (in_line line (label_differs kept.items found.items))
-fault_of (replay.StateDiffers line kept found) = Some (in_line line (state_differs kept.items found.items))
-fault_of (replay.Step line refusal) = at_line line (step_refusal_of refusal)
-fault_of replay.NoMemory = None
+abbrev pub replay_refusal_of : ReplayFault → Option ReplayRefusal
+replay_refusal_of (replay.BadLine line) = Some (in_line line bad_line)
+replay_refusal_of (replay.OtherSpecification kept) = Some (other_specification kept.items)
+replay_refusal_of (replay.LabelDiffers line kept found) = Some (in_line line (label_differs kept.items found.items))
+replay_refusal_of (replay.StateDiffers line kept found) = Some (in_line line (state_differs kept.items found.items))
+replay_refusal_of (replay.Step line refusal) = at_line line (step_refusal_of refusal)
+replay_refusal_of replay.NoMemory = None
 
 abbrev pub AddsFault : (name : List ℕ) → ReplayFault → List ℕ → List ℕ → Type 0
-AddsFault name fault before after = IsSomeAnd (fault_of fault) (λ refusal. after ≡ before ++ replay_refusal_text name refusal)
+AddsFault name fault before after = IsSomeAnd (replay_refusal_of fault) (λ refusal. after ≡ before ++ replay_refusal_text name refusal)
 
 -- the number of the refusal of a step
 abbrev pub number_for : Option plain.StepRefusal → Option (List ℕ)

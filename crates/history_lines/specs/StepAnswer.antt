@@ -5,7 +5,7 @@ use Rattle.lotos_base.specs.Term.{Term}
 use Rattle.sort_terms.specs.ReadingOutcome as reading
 use Rattle.behaviour_semantics.specs.Label.{Label}
 use Rattle.behaviour_semantics.specs.Solving.{Entry}
-use Rattle.session_log.specs.HandedOn.{bad_term, term_number, AreTerms, AreUnread, SessionBasis, Progress, StepRefusal, entry_numbered}
+use Rattle.session_log.specs.HandedOn.{bad_term, term_number, AreTermsOfLine, AreUnread, SessionBasis, Progress, StepRefusal, entry_numbered}
 use Rattle.session_log.specs.HandedOn.{number_refusal, condition_refusal, HasStepped, AreRead}
 use Rattle.session_log.specs.Values.{IsFirstMisread}
 use Rattle.history_lines.specs.CommandRefusal.{CommandRefusal, ill_formed, no_step}
@@ -17,7 +17,7 @@ pub data StepAnswer : Type 0 where
 
 -- The text has as many terms as the entry with this number has variables.
 pub record IsCounted (menu : List Entry) (number : ℕ) (text : List ℕ) (entry : Entry) (terms : List WrittenTerm) : Type 0 where
-  pub are : AreTerms text terms
+  pub are : AreTermsOfLine text terms
   pub listed : entry_numbered menu number ≡ Some entry
   pub counted : length terms ≡ length entry.variables
 
@@ -38,7 +38,7 @@ pub data StepComesTo (basis : SessionBasis) (progress : Progress) (number : ℕ)
       StepComesTo basis progress number text (declined (ill_formed (bad_term fault)))
   is_miscounted :
       (terms : List WrittenTerm) (refusal : StepRefusal) →
-      AreTerms text terms →
+      AreTermsOfLine text terms →
       number_refusal progress.situation.menu number (length terms) ≡ Some refusal →
       StepComesTo basis progress number text (declined (no_step refusal))
   is_misread :

@@ -5,7 +5,7 @@ ghost use Rattle.history_lines.specs.LinesView.{IsServing, basis_of, reached, st
 ghost use Rattle.history_lines.specs.Serving.{moment_of, GivesAnswer, IsBeforeOrBehind};
 ghost use Rattle.line_server.specs.Request.{compare, list_instances, show_normal};
 ghost use Rattle.value_lists.specs.ListOutcome.{ValuesComeTo};
-ghost use Rattle.value_lists.specs.ListText.{values_text};
+ghost use Rattle.value_lists.specs.ListText.{listed_values_text};
 ghost use Rattle.value_lists.specs.ListView.{AddsList};
 ghost use Rattle.line_server.specs.RequestView.{wants};
 ghost use Rattle.line_server.specs.RequestLaws.{Carries};
@@ -124,7 +124,7 @@ impl<M: MenuMaker> HistoryLines<'_, M> {
     fn values_line(&self, alloc: Global, name: &[u8], size: u32) -> Result<Vec<u8>, NoMemory>
         requires serving { IsServing M.suits self.now }
         ensures { IfOk result (λ text. AddsList (ValuesComeTo (basis_of self.now) name.now size)
-            (values_text (basis_of self.now)) [] text.items) }
+            (listed_values_text (basis_of self.now)) [] text.items) }
     {
         let mut text = Vec::new(alloc);
         push_value_list(

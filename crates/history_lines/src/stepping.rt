@@ -15,7 +15,7 @@ ghost use Rattle.history_lines.specs.Values.{ChoosesValues};
 ghost use Rattle.line_server.specs.Request.{take_step, undo as undo_step};
 ghost use Rattle.lotos_base.specs.Outside.{Texts};
 ghost use Rattle.lotos_base.specs.WrittenView.{written_term_of};
-ghost use Rattle.session_log.specs.HandedOn.{AreTerms, label_of};
+ghost use Rattle.session_log.specs.HandedOn.{AreTermsOfLine, label_of};
 ghost use Rattle.std.specs.Prelude.{
   ◌≡◌,
   ◌+◌,
@@ -112,7 +112,7 @@ impl<M: MenuMaker> HistoryLines<'_, M> {
         terms: &[Written],
     ) -> Result<Vec<Sorted>, Decline>
         requires serving { IsServing M.suits self.now }
-        ensures { (text : List ℕ) → AreTerms text (map written_term_of terms.now)
+        ensures { (text : List ℕ) → AreTermsOfLine text (map written_term_of terms.now)
             → MatchResult result
             (λ values. ChoosesValues (basis_of self.now) (reached self.now) number text
             values.items)

@@ -5,8 +5,8 @@ use Rattle.lotos_base.specs.Signature.{Signature}
 use Rattle.lotos_base.specs.WrittenTerm.{WrittenTerm}
 use Rattle.induct_parts.specs.HandedOn.{Cover, TreeLine, PatternTree, ProofLine, Lemma, lines_of_trees, lines_of_tree, lines_of_lemma}
 use Rattle.induct_parts.specs.CertificateView.{lines_of_lemmas, lines_of_certificate}
-use Rattle.induct_check.specs.CertificateLines.{Form, cover_form, tree_form, split_form, lemma_form, left_form, right_form, use_form, leaf_form, same_form, no_form, form_of, path_of, byte_before, parts_at}
-use Rattle.induct_check.specs.CertificateReading.{OpenPart, among_covers, in_tree, behind_variables, behind_left, in_proof, NamedCase, ReadSoFar, Task, read_cover, read_tree, tree_line, read_variables, read_left, read_right, proof_line, no_task, among_covers_task, pattern_split, in_tree_task, left_task, right_task, variable_split, in_proof_task, task_of, Piece, new_cover, new_tree, new_tree_line, new_variables, new_left, new_lemma, new_proof_line, GivesPiece, with_last, tree_with, lemma_with, stated, proof_behind, with_piece}
+use Rattle.induct_check.specs.CertificateLines.{LineForm, cover_form, tree_form, split_form, lemma_form, left_form, right_form, use_form, leaf_form, same_form, no_form, line_form_of, path_of, byte_before, parts_at}
+use Rattle.induct_check.specs.CertificateReading.{OpenPart, among_covers, in_tree, behind_variables, behind_left, in_proof, NamedCase, ReadSoFar, LineTask, read_cover, read_tree, tree_line, read_variables, read_left, read_right, proof_line, no_task, among_covers_task, pattern_split, in_tree_task, left_task, right_task, variable_split, in_proof_task, line_task_of, Piece, new_cover, new_tree, new_tree_line, new_variables, new_left, new_lemma, new_proof_line, GivesPiece, with_last, tree_with, lemma_with, stated_lemma, proof_behind, with_piece}
 use Rattle.induct_check.specs.TextFaults.{ReadText, LinesReadTo, ends, lacks_a_line, lacks_line_feed, goes_on, stops, stops_at_left}
 
 -- the lines of the head of a lemma that were read, where its proof has not begun
@@ -17,7 +17,7 @@ waiting (behind_variables variables) = 1
 waiting (behind_left variables left) = 2
 waiting (in_proof left) = 0
 
-abbrev asks_behind : Task → ℕ
+abbrev asks_behind : LineTask → ℕ
 asks_behind (read_cover sort items) = 0
 asks_behind (read_tree item) = 0
 asks_behind (tree_line line) = 0
@@ -27,7 +27,7 @@ asks_behind (read_right variables left term) = 2
 asks_behind (proof_line line cases) = 0
 asks_behind no_task = 0
 
-among_asks : (form : Form) → asks_behind (among_covers_task form) ≤ 0
+among_asks : (form : LineForm) → asks_behind (among_covers_task form) ≤ 0
 among_asks (cover_form s t) = omega arith
 among_asks (tree_form t) = omega arith
 among_asks (split_form w) = omega arith
@@ -43,7 +43,7 @@ pattern_asks : (path : Option (List ℕ)) → asks_behind (pattern_split path) �
 pattern_asks None = omega arith
 pattern_asks (Some path) = omega arith
 
-tree_asks : (form : Form) → asks_behind (in_tree_task form) ≤ 0
+tree_asks : (form : LineForm) → asks_behind (in_tree_task form) ≤ 0
 tree_asks (cover_form s t) = omega arith
 tree_asks (tree_form t) = omega arith
 tree_asks (split_form w) = pattern_asks (path_of w)
@@ -55,7 +55,7 @@ tree_asks leaf_form = omega arith
 tree_asks same_form = omega arith
 tree_asks no_form = omega arith
 
-left_asks : (variables : List Variable) (form : Form) → asks_behind (left_task variables form) ≤ 1
+left_asks : (variables : List Variable) (form : LineForm) → asks_behind (left_task variables form) ≤ 1
 left_asks variables (cover_form s t) = omega arith
 left_asks variables (tree_form t) = omega arith
 left_asks variables (split_form w) = omega arith
@@ -67,7 +67,7 @@ left_asks variables leaf_form = omega arith
 left_asks variables same_form = omega arith
 left_asks variables no_form = omega arith
 
-right_asks : (variables : List Variable) (left : WrittenTerm) (form : Form) → asks_behind (right_task variables left form) ≤ 2
+right_asks : (variables : List Variable) (left : WrittenTerm) (form : LineForm) → asks_behind (right_task variables left form) ≤ 2
 right_asks variables left (cover_form s t) = omega arith
 right_asks variables left (tree_form t) = omega arith
 right_asks variables left (split_form w) = omega arith
@@ -84,7 +84,7 @@ split_asks : (signature : Signature) (covers : List Cover) (left : List NamedCas
 split_asks signature covers [] name = omega arith
 split_asks signature covers (point ∷ points) name = omega arith
 
-proof_asks : (signature : Signature) (covers : List Cover) (left : List NamedCase) (form : Form)
+proof_asks : (signature : Signature) (covers : List Cover) (left : List NamedCase) (form : LineForm)
     → asks_behind (in_proof_task signature covers left form) ≤ 0
 proof_asks signature covers left (cover_form s t) = omega arith
 proof_asks signature covers left (tree_form t) = omega arith
@@ -97,8 +97,8 @@ proof_asks signature covers left leaf_form = omega arith
 proof_asks signature covers left same_form = omega arith
 proof_asks signature covers left no_form = omega arith
 
-task_asks : (signature : Signature) (covers : List Cover) (part : OpenPart) (form : Form)
-    → asks_behind (task_of signature covers part form) ≤ waiting part
+task_asks : (signature : Signature) (covers : List Cover) (part : OpenPart) (form : LineForm)
+    → asks_behind (line_task_of signature covers part form) ≤ waiting part
 task_asks signature covers among_covers form = among_asks form
 task_asks signature covers in_tree form = tree_asks form
 task_asks signature covers (behind_variables variables) form = left_asks variables form
@@ -164,11 +164,11 @@ one_more reading (new_tree_line line) enough = omega (arith, tree_line_more line
 one_more reading (new_variables variables) enough = omega arith
 one_more reading (new_left variables left) enough = omega (arith, enough)
 one_more reading (new_lemma variables statement) enough =
-    omega (arith, enough, more_lemmas reading.certificate.lemmas (stated variables statement))
+    omega (arith, enough, more_lemmas reading.certificate.lemmas (stated_lemma variables statement))
 one_more reading (new_proof_line line cases) enough =
     omega (arith, proof_line_more line reading.certificate.lemmas, same_waiting cases reading.part)
 
-piece_needs : (signature : Signature) (task : Task) (piece : Piece) → GivesPiece signature task piece → needs piece ≤ asks_behind task
+piece_needs : (signature : Signature) (task : LineTask) (piece : Piece) → GivesPiece signature task piece → needs piece ≤ asks_behind task
 piece_needs signature (read_cover sort items) piece h = subst (λ (p : Piece). needs p ≤ 0) (sym h.2) (omega arith)
 piece_needs signature (read_tree item) piece h = subst (λ (p : Piece). needs p ≤ 0) (sym h.2) (omega arith)
 piece_needs signature (tree_line line) piece h = subst (λ (p : Piece). needs p ≤ 0) (sym h) (omega arith)
@@ -186,9 +186,9 @@ few signature number reading parts text (ends done) = omega arith
 few signature number reading parts text (lacks_a_line open_) = omega arith
 few signature number reading parts text lacks_line_feed = omega arith
 few signature number reading parts text (goes_on {line = line} {next = next} {parts = more} piece gives rest) =
-    let task = task_of signature reading.certificate.covers reading.part (form_of line) in
+    let task = line_task_of signature reading.certificate.covers reading.part (line_form_of line) in
     let enough : needs piece ≤ asks_behind task = piece_needs signature task piece gives in
-    let asked : asks_behind task ≤ waiting reading.part = task_asks signature reading.certificate.covers reading.part (form_of line) in
+    let asked : asks_behind task ≤ waiting reading.part = task_asks signature reading.certificate.covers reading.part (line_form_of line) in
     let added : read_lines (with_piece reading piece) ≤ read_lines reading + 1 = one_more reading piece (omega (arith, enough, asked)) in
     let left = few signature (suc number) (with_piece reading piece) (next ∷ more) text rest in
     omega (arith, added, left)

@@ -3,10 +3,10 @@ use Rattle.std.proofs.Common.{◌<◌, ◌+◌, ◌^◌, ◌==◌, ℕ, suc, Lis
 use Rattle.std.specs.List.{position}
 use Rattle.std.specs.Str.{bytes_eq}
 use Rattle.induct_parts.specs.HandedOn.{Use}
-use Rattle.induct_check.specs.CertificateLines.{Form, lemma_form, no_form, cover_by, split_by, use_or_none, use_by, parts_at, form_alone, form_with, form_by, form_of, cut_by, cut_at_blank}
+use Rattle.induct_check.specs.CertificateLines.{LineForm, lemma_form, no_form, cover_by, split_by, use_or_none, use_by, parts_at, form_alone, form_with, form_by, line_form_of, word_cut_by, cut_at_blank}
 use Rattle.induct_check.specs.FormView.{IsShort}
 
-pick : (b : Bool) (x y : Form) → IsShort x → IsShort y → IsShort (if b then x else y)
+pick : (b : Bool) (x y : LineForm) → IsShort x → IsShort y → IsShort (if b then x else y)
 pick true x y h k = h
 pick false x y h k = k
 
@@ -42,10 +42,10 @@ by_short word None short = alone_short word
 by_short word (Some rest) short = with_short word rest short
 
 rest_short : (line : List ℕ) (place : Option ℕ) → length line + 1 < 2 ^ 32
-    → MatchOption (cut_by line place).rest (Unit {0}) (λ t. length t + 1 < 2 ^ 32)
+    → MatchOption (word_cut_by line place).rest (Unit {0}) (λ t. length t + 1 < 2 ^ 32)
 rest_short line None short = tt
 rest_short line (Some k) short = omega (arith, length-drop (suc k) line, short)
 
-pub form_short : (line : List ℕ) → length line + 1 < 2 ^ 32 → IsShort (form_of line)
+pub form_short : (line : List ℕ) → length line + 1 < 2 ^ 32 → IsShort (line_form_of line)
 form_short line short =
     by_short (cut_at_blank line).word (cut_at_blank line).rest (rest_short line (position (λ byte. byte == 32) line) short)

@@ -17,9 +17,6 @@ pub record ListsOn (signature : Signature) (all rest : List ListedOperation) (do
   pub on : (fs : List ℕ) → ItemsList signature rest fs → ItemsList signature all (done ++ fs)
   pub back : (fs : List ℕ) → ItemsList signature all fs → (gs : List ℕ) × ItemsList signature rest gs
 
-pub lists_begin : (signature : Signature) (all : List ListedOperation) → ListsOn signature all all []
-lists_begin signature all = record { on = λ fs h. h; back = λ fs h. (fs, h) }
-
 pub lists_end : (signature : Signature) (all : List ListedOperation) (done : List ℕ) → ListsOn signature all [] done
     → ItemsList signature all done
 lists_end signature all done now =

@@ -1,16 +1,15 @@
 -- What a text is said to be, by what it comes to and by what was read.
 use Rattle.std.proofs.Common.{◌≡◌, ℕ, List, Option, None, Some, inl, inr, refl, sym, subst}
 use Rattle.lotos_base.specs.Signature.{Signature}
-use Rattle.induct_parts.specs.HandedOn.{Certificate, Lemma, IsCertified, IsInductionFault, InductionFault, bad_line, no_variable, no_cover}
+use Rattle.induct_parts.specs.HandedOn.{Certificate, IsCertified, IsInductionFault, InductionFault, bad_line, no_variable, no_cover}
 use Rattle.induct_parts.specs.HandedOn.{no_tree, not_reducible, bad_use, not_same, FirstFaultsAreOne, RightOnesHaveNoFault, Theory}
-use Rattle.induct_parts.specs.FaultView.{HoldsAtLine, HoldsOfFault}
-use Rattle.induct_parts.specs.SettingView.{AllCovered}
+use Rattle.induct_parts.specs.FaultView.{HoldsAtLine, HoldsOfLineFault}
 use Rattle.induct_parts.specs.StatementView.{statement_of}
 use Rattle.induct_parts.specs.declared.at_line.AtLine.{AtLine}
 use Rattle.induct_parts.specs.declared.line_fault.LineFault.{LineFault}
 use Rattle.induct_parts.specs.declared.line_fault.LineFault.TheVariants.{BadLine, NoVariable, NoCover, NoTree, NotReducible, BadUse, NotSame, NoMemory}
 use Rattle.induct_parts.proofs.LineSteps.{fault_more}
-use Rattle.induct_check.specs.CheckView.{IsCertifiedText, IsFirstOf}
+use Rattle.induct_check.specs.CheckView.{IsFirstOf}
 use Rattle.induct_check.specs.TextFaults.{ReadText, Stop, TextComesTo, IsReadAsInduction, ComesBeforeStop, IsTextFault, in_certificate, before_stop, at_stop}
 
 -- what a text comes to, by whether it stops
@@ -29,24 +28,12 @@ over : (signature other : Signature) (text : List ℕ) (read : ReadText) → sig
     → TextComesTo other text read
 over signature other text read same comes = subst (λ (s : Signature). TextComesTo s text read) same comes
 
-pub certified_text : (theory : Theory) (signature : Signature) (text : List ℕ) (read : ReadText) (lemmas : List Lemma)
-    → signature ≡ theory.data_.signature → read.stop ≡ None → read.certificate.lemmas ≡ lemmas → IsCertified theory read.certificate
-    → AllCovered theory.data_.signature theory.rules read.certificate.covers → TextComesTo signature text read
-    → IsCertifiedText theory text lemmas
-certified_text theory signature text read lemmas same whole lemmas_are right covered comes = record {
-  certificate = read.certificate;
-  read = comes_whole theory.data_.signature text read whole (over signature theory.data_.signature text read same comes);
-  right = right;
-  covered = covered;
-  lemmas_are = lemmas_are;
-}
-
 -- a right certificate, and a stop
 pub stops_right : RightOnesHaveNoFault → (theory : Theory) (signature : Signature) (text : List ℕ) (read : ReadText) (stop : Stop)
     (told : AtLine) → signature ≡ theory.data_.signature → read.stop ≡ Some stop → told.line ≡ stop.line → told.fault ≡ BadLine
     → IsCertified theory read.certificate → TextComesTo signature text read → HoldsAtLine (IsTextFault theory text) told
 stops_right laws theory signature text read stop told same is line fault right comes =
-    subst (λ (f : LineFault). HoldsOfFault (IsTextFault theory text told.line) f) (sym fault)
+    subst (λ (f : LineFault). HoldsOfLineFault (IsTextFault theory text told.line) f) (sym fault)
     (subst (λ (n : ℕ). IsTextFault theory text n bad_line) (sym line)
     (at_stop (comes_stopped theory.data_.signature text read stop is (over signature theory.data_.signature text read same comes))
     (λ n f wrong before. laws theory read.certificate n f right wrong)))
@@ -62,8 +49,8 @@ whole_fault theory signature text read at same whole wrong comes =
     at.fault wrong
 
 -- what holds of a fault, twice
-both_hold : (P Q R : InductionFault → Type 0) → ((f : InductionFault) → P f → Q f → R f) → (fault : LineFault) → HoldsOfFault P fault
-    → HoldsOfFault Q fault → HoldsOfFault R fault
+both_hold : (P Q R : InductionFault → Type 0) → ((f : InductionFault) → P f → Q f → R f) → (fault : LineFault) → HoldsOfLineFault P fault
+    → HoldsOfLineFault Q fault → HoldsOfLineFault R fault
 both_hold P Q R both BadLine p q = both bad_line p q
 both_hold P Q R both NoVariable p q = both no_variable p q
 both_hold P Q R both NoCover p q = both no_cover p q
@@ -74,7 +61,7 @@ both_hold P Q R both (NotSame statement) p q = both (not_same (statement_of stat
 both_hold P Q R both NoMemory p q = tt
 
 -- where want of memory is not it, there is a fault
-has_fault : (P Q : InductionFault → Type 0) → (fault : LineFault) → HoldsOfFault P fault → ¬ HoldsOfFault Q fault
+has_fault : (P Q : InductionFault → Type 0) → (fault : LineFault) → HoldsOfLineFault P fault → ¬ HoldsOfLineFault Q fault
     → (f : InductionFault) × P f × (¬ Q f)
 has_fault P Q BadLine p q = (bad_line, p, q)
 has_fault P Q NoVariable p q = (no_variable, p, q)
@@ -108,7 +95,7 @@ first_by laws theory signature text read at told (Some stop) is same wrong (inl 
     (over signature theory.data_.signature text read same comes)) w b)
     at.fault wrong first.0)
 first_by laws theory signature text read at told (Some stop) is same wrong (inr first) comes =
-    subst (λ (f : LineFault). HoldsOfFault (IsTextFault theory text told.line) f) (sym first.2)
+    subst (λ (f : LineFault). HoldsOfLineFault (IsTextFault theory text told.line) f) (sym first.2)
     (subst (λ (n : ℕ). IsTextFault theory text n bad_line) (sym first.1)
     (at_stop (comes_stopped theory.data_.signature text read stop is (over signature theory.data_.signature text read same comes))
     (fault_behind laws theory read.certificate stop at wrong first.0)))

@@ -6,7 +6,7 @@ use Rattle.lotos_base.proofs.Pieces.{next_member}
 use Rattle.std.proofs.lemmas.Option.{get_or_from_slice_get}
 use Rattle.lotos_base.specs.Signature.{Signature}
 use Rattle.induct_check.specs.CertificateReading.{ReadSoFar, Piece, FailsWithLeft, with_piece}
-use Rattle.induct_check.specs.TextFaults.{LineGives, task_behind, ReadText, stopped, stopped_at, may_end, LinesReadTo, ends, lacks_a_line, lacks_line_feed, goes_on, stops, stops_at_left}
+use Rattle.induct_check.specs.TextFaults.{LineGives, task_behind, ReadText, stopped_reading, stopped_at, may_end, LinesReadTo, ends, lacks_a_line, lacks_line_feed, goes_on, stops, stops_at_left}
 
 module _ (parts : List (List ℕ)) where
   -- a line behind which something stands
@@ -86,6 +86,7 @@ comes_to_end signature number reading rest none end =
     (ends end)
 
 pub lacks_line : (signature : Signature) (number : ℕ) (reading : ReadSoFar) (rest : List ℕ) → rest ≡ [] → may_end reading.part ≡ false
-    → LinesReadTo signature number reading (rest ∷ []) (stopped reading number false)
+    → LinesReadTo signature number reading (rest ∷ []) (stopped_reading reading number false)
 lacks_line signature number reading rest none open_ =
-    subst (λ (r : List ℕ). LinesReadTo signature number reading (r ∷ []) (stopped reading number false)) (sym none) (lacks_a_line open_)
+    subst (λ (r : List ℕ). LinesReadTo signature number reading (r ∷ []) (stopped_reading reading number false)) (sym none)
+    (lacks_a_line open_)

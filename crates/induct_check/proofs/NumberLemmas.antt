@@ -1,6 +1,5 @@
 -- Numbers that are held below the most.
-use Rattle.std.proofs.Common.{◌≡◌, ◌<◌, ◌≤◌, ◌+◌, ◌*◌, ◌-◌, ◌++◌, ℕ, List, [], ◌∷◌, Bool, true, false, drop, length, get_or, nat_lt, Option, None, Some, refl, ap, sym, ◌∙◌, subst, arith, ltb-true, ltb-false}
-use Rattle.std.proofs.lemmas.List.{append_assoc}
+use Rattle.std.proofs.Common.{◌≡◌, ◌<◌, ◌≤◌, ◌+◌, ◌*◌, ◌-◌, ◌++◌, ℕ, List, [], ◌∷◌, Bool, true, false, drop, length, get_or, nat_lt, Option, refl, ap, sym, ◌∙◌, subst, arith, ltb-true, ltb-false}
 use Rattle.std.specs.Prelude.{if◌then◌else◌}
 use Rattle.std.specs.Char.{is_ascii_digit, digit_value}
 use Rattle.std.specs.List.{list_all}
@@ -9,7 +8,7 @@ use Rattle.std.specs.Str.Parse.{digits_value_after}
 use Rattle.std.proofs.lemmas.Bool.{and_parts}
 use Rattle.lotos_base.proofs.Digits.{digit_is, digit_value_is}
 use Rattle.lotos_base.proofs.Pieces.{next_member}
-use Rattle.induct_check.specs.CertificateLines.{most, at_most, from_nought, number_before}
+use Rattle.induct_check.specs.CertificateLines.{most, at_most, from_nought}
 
 top : (n : ℕ) → most ≤ n → at_most n ≡ most
 top n above = by (nat_lt most n) refl
@@ -101,16 +100,6 @@ value_read digits index value digit next below is all =
 -- what the numbers of the rest are behind those that were read
 abbrev pub behind_numbers : List ℕ → Option (List ℕ) → Option (List ℕ)
 behind_numbers path more = option_map (λ (ns : List ℕ). path ++ ns) more
-
-pub numbers_begin : (more : Option (List ℕ)) → more ≡ behind_numbers [] more
-numbers_begin None = refl
-numbers_begin (Some ns) = refl
-
-pub one_number : (path new : List ℕ) (n : ℕ) (more : Option (List ℕ)) → new ≡ path ++ n ∷ []
-    → behind_numbers path (number_before (Some n) more) ≡ behind_numbers new more
-one_number path new n None e = refl
-one_number path new n (Some ns) e = ap (λ (xs : List ℕ). Some xs) (sym (append_assoc path (n ∷ []) ns)
-    ∙ ap (λ (xs : List ℕ). xs ++ ns) (sym e))
 
 pub nought_is_most : (n : ℕ) → n ≡ 0 → 4294967295 ≡ from_nought n
 unfolding most

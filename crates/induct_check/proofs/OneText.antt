@@ -13,7 +13,7 @@ use Rattle.sort_terms.proofs.ReadsLemmas.{comes_once}
 use Rattle.syntax_trees.specs.WrittenVariable.{WrittenVariable}
 use Rattle.induct_parts.specs.HandedOn.{Cover, Certificate, Lemma, Statement, IsCertified, IsInductionFault, InductionFault, bad_line}
 use Rattle.induct_parts.specs.HandedOn.{FirstFaultsAreOne, RightOnesHaveNoFault, Theory}
-use Rattle.induct_check.specs.CertificateReading.{ItemsList, nothing_listed, item_lists, AreOperationsOf, IsWrittenCover, AreNumbered, AreLemmaVariables, IsWrittenSide, AreReadSides, Task, read_cover, read_tree, tree_line, read_variables, read_left, read_right, proof_line, no_task, Piece, new_cover, new_tree, new_variables, new_left, new_lemma, GivesPiece, FailsWithLeft, ReadSoFar, nothing_read, with_piece}
+use Rattle.induct_check.specs.CertificateReading.{ItemsList, nothing_listed, item_lists, AreOperationsOf, IsWrittenCover, AreNumbered, AreLemmaVariables, IsWrittenSide, AreReadSides, LineTask, read_cover, read_tree, tree_line, read_variables, read_left, read_right, proof_line, no_task, Piece, new_cover, new_tree, new_variables, new_left, new_lemma, GivesPiece, FailsWithLeft, ReadSoFar, nothing_read, with_piece}
 use Rattle.induct_check.specs.CheckView.{IsCertifiedText}
 use Rattle.induct_check.specs.TextFaults.{task_behind, Stop, ReadText, LinesReadTo, ends, lacks_a_line, lacks_line_feed, goes_on, stops, stops_at_left, TextComesTo, IsReadAsInduction, ComesBeforeStop, IsTextFault, in_certificate, before_stop, at_stop}
 use Rattle.induct_check.proofs.WrittenLemmas.{written_once}
@@ -94,7 +94,7 @@ module _ (signature : Signature) (well : IsWellFormedSignature signature) where
       let same : pair ≡ second = pair_statement pair second both in
       (λ i. record { left = (same i).left; right = (same i).right })
 
-  gives_once : (task : Task) (one other : Piece) → GivesPiece signature task one → GivesPiece signature task other → one ≡ other
+  gives_once : (task : LineTask) (one other : Piece) → GivesPiece signature task one → GivesPiece signature task other → one ≡ other
   gives_once (read_cover sort items) one other is also =
       is.2 ∙ ap (λ (c : Cover). new_cover c) (cover_once sort items is.0 also.0 is.1 also.1) ∙ sym also.2
   gives_once (read_tree item) one other is also =
@@ -116,7 +116,7 @@ module _ (signature : Signature) (well : IsWellFormedSignature signature) where
   gives_once no_task one other is also = absurd is
 
   -- what fails with the left side gives nothing
-  gives_or_fails : (task : Task) (piece : Piece) → GivesPiece signature task piece → ¬ FailsWithLeft signature task
+  gives_or_fails : (task : LineTask) (piece : Piece) → GivesPiece signature task piece → ¬ FailsWithLeft signature task
   gives_or_fails (read_cover sort items) piece is fails = fails
   gives_or_fails (read_tree item) piece is fails = fails
   gives_or_fails (tree_line line) piece is fails = fails

@@ -2,8 +2,8 @@
 use Rattle.std.proofs.Common.{◌≡◌, List, Option, None, Some}
 use Rattle.std.specs.Prelude.{MatchOption, Result, Ok, Err, OnOk, IfOk}
 use Rattle.std.proofs.Common.{sym, subst}
-use Rattle.induct_check.specs.CertificateReading.{OpenPart, Task, task_of}
-use Rattle.induct_check.specs.CertificateLines.{Form}
+use Rattle.induct_check.specs.CertificateReading.{OpenPart, LineTask, line_task_of}
+use Rattle.induct_check.specs.CertificateLines.{LineForm}
 use Rattle.induct_parts.specs.CertificateView.{covers_in}
 use Rattle.induct_parts.specs.declared.certificates.Cover.{Cover}
 use Rattle.induct_check.specs.PieceView.{IsUnderstood}
@@ -20,16 +20,16 @@ on_ok_more P Q (Ok x) more h = more h
 on_ok_more P Q (Err e) more h = tt
 
 -- what becomes of a line, by another name of what it asks for
-pub moved : {E : Type 0} (signature : Signature) (task other : Task) (r q : Result LineOutcome E) → task ≡ other → q ≡ r
+pub moved : {E : Type 0} (signature : Signature) (task other : LineTask) (r q : Result LineOutcome E) → task ≡ other → q ≡ r
     → IfOk r (IsUnderstood signature task) → IfOk q (IsUnderstood signature other)
 moved {E = E} signature task other r q same is h =
     subst (λ (x : Result LineOutcome E). IfOk x (IsUnderstood signature other)) (sym is)
-    (subst (λ (t : Task). IfOk r (IsUnderstood signature t)) same h)
+    (subst (λ (t : LineTask). IfOk r (IsUnderstood signature t)) same h)
 
 -- what becomes of a line, over the covers that were read
-pub over_covers : (signature : Signature) (xs ys : List Cover) (part : OpenPart) (form : Form) (o q : LineOutcome) → xs ≡ ys → o ≡ q
-    → IsUnderstood signature (task_of signature (covers_in xs) part form) o
-    → IsUnderstood signature (task_of signature (covers_in ys) part form) q
+pub over_covers : (signature : Signature) (xs ys : List Cover) (part : OpenPart) (form : LineForm) (o q : LineOutcome) → xs ≡ ys → o ≡ q
+    → IsUnderstood signature (line_task_of signature (covers_in xs) part form) o
+    → IsUnderstood signature (line_task_of signature (covers_in ys) part form) q
 over_covers signature xs ys part form o q same is h =
-    subst (λ (x : LineOutcome). IsUnderstood signature (task_of signature (covers_in ys) part form) x) is
-    (subst (λ (cs : List Cover). IsUnderstood signature (task_of signature (covers_in cs) part form) o) same h)
+    subst (λ (x : LineOutcome). IsUnderstood signature (line_task_of signature (covers_in ys) part form) x) is
+    (subst (λ (cs : List Cover). IsUnderstood signature (line_task_of signature (covers_in cs) part form) o) same h)

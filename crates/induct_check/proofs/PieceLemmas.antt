@@ -1,24 +1,21 @@
 -- What lines that ask for something give, and when they give nothing.
-use Rattle.std.proofs.Common.{◌≡◌, ◌≢◌, ◌++◌, ℕ, zero, List, [], ◌∷◌, Option, None, Some, Bor, slice_index_or, arith, length, reverse, refl, ap, sym, ◌∙◌, subst}
-use Rattle.std.proofs.lemmas.List.{reverse-append}
+use Rattle.std.proofs.Common.{◌≡◌, ◌≢◌, ℕ, List, [], ◌∷◌, Option, None, Some, Bor, slice_index_or, arith, length, refl, ap, sym, subst}
 use Rattle.lotos_base.specs.Equation.{Variable}
 use Rattle.lotos_base.specs.Signature.{Signature, Operation, IsOperation}
 use Rattle.lotos_base.specs.WrittenTerm.{WrittenTerm}
 use Rattle.lotos_grammar.specs.HandedOn.{TextsHaveOneOutcome}
 use Rattle.sort_terms.specs.Reading.{IsSortNamed}
-use Rattle.induct_parts.specs.HandedOn.{Cover, split_pattern, Statement, split_variable}
-use Rattle.induct_check.specs.CertificateReading.{ItemsList, AreOperationsOf, AreLemmaVariables, IsWrittenSide, AreReadSides, number_named, cases_behind, Task, read_cover, read_tree, read_variables, read_left, read_right, proof_line, no_task, pattern_split, variable_split, among_covers_task, in_tree_task, left_task, right_task, Piece, new_cover, new_tree, new_tree_line, new_variables, new_left, new_lemma, GivesPiece, FailsWithLeft}
+use Rattle.induct_parts.specs.HandedOn.{Cover, Statement}
+use Rattle.induct_check.specs.CertificateReading.{ItemsList, AreOperationsOf, AreLemmaVariables, IsWrittenSide, AreReadSides, LineTask, read_cover, read_tree, read_variables, read_left, read_right, no_task, among_covers_task, in_tree_task, left_task, right_task, Piece, new_tree, new_variables, new_lemma, GivesPiece, FailsWithLeft}
 use Rattle.induct_check.specs.FormView.{form_in}
 use Rattle.induct_check.specs.declared.forms.Form.{Form}
 use Rattle.induct_check.specs.declared.forms.Form.TheVariants as line
-use Rattle.induct_check.specs.NameView.{named_case_in, named_cases_in}
 use Rattle.induct_check.specs.PieceView.{AreKnownVariables}
-use Rattle.induct_check.specs.declared.names.NamedCase.{NamedCase as CodeCase}
 use Rattle.induct_check.proofs.ItemLemmas.{one_listed, first_listed}
 use Rattle.induct_check.proofs.StatedLemmas.{known_variables, no_variables}
 
 -- the line gives nothing, and is no right side either
-abbrev pub GivesNothing : Signature → Task → Type 0
+abbrev pub GivesNothing : Signature → LineTask → Type 0
 GivesNothing signature task = ((piece : Piece) → ¬ GivesPiece signature task piece) × (¬ FailsWithLeft signature task)
 
 -- ---- Covers and trees
@@ -30,11 +27,6 @@ no_cover_sort signature sort items none = ((λ p h. none h.0.sort h.1.named), (�
 pub no_cover_items : (signature : Signature) (sort items : List ℕ) → ((fs : List ℕ) → AreOperationsOf signature items fs → ⊥)
     → GivesNothing signature (read_cover sort items)
 no_cover_items signature sort items none = ((λ p h. none h.0.operations h.1.listed), (λ h. h))
-
-pub gives_cover : (signature : Signature) (sort items : List ℕ) (n : ℕ) (fs : List ℕ) → IsSortNamed signature n sort
-    → AreOperationsOf signature items fs → GivesPiece signature (read_cover sort items) (new_cover (record { sort = n; operations = fs }))
-gives_cover signature sort items n fs named listed =
-    (record { sort = n; operations = fs }, record { named = named; listed = listed }, refl)
 
 pub no_tree_item : (signature : Signature) (item : List ℕ) → ((fs : List ℕ) → AreOperationsOf signature item fs → ⊥)
     → GivesNothing signature (read_tree item)
@@ -59,10 +51,6 @@ gives_tree signature item fs f listed is =
 
 -- ---- Heads of lemmas
 
-pub no_variables_there : (signature : Signature) (text : Option (List ℕ)) → ((vs : List Variable) → AreLemmaVariables signature text vs → ⊥)
-    → GivesNothing signature (read_variables text)
-no_variables_there signature text none = ((λ p h. none h.0 h.1), (λ h. h))
-
 pub known_here : (signature : Signature) (text : Option (List ℕ)) (vs : List Variable) → AreLemmaVariables signature text vs
     → AreKnownVariables signature vs
 known_here signature None vs are = subst (λ us. AreKnownVariables signature us) (sym are) (no_variables signature)
@@ -76,20 +64,9 @@ pub no_left_side : (signature : Signature) (vs : List Variable) (term : List ℕ
     → ((side : WrittenTerm) → IsWrittenSide signature vs term side → ⊥) → GivesNothing signature (read_left vs term)
 no_left_side signature vs term none = ((λ p h. none h.0 h.1), (λ h. h))
 
-pub gives_left : (signature : Signature) (vs us : List Variable) (term : List ℕ) (left : WrittenTerm) → us ≡ vs
-    → AreKnownVariables signature vs → IsWrittenSide signature vs term left
-    → GivesPiece signature (read_left vs term) (new_left us left) × AreKnownVariables signature us
-gives_left signature vs us term left same known side =
-    ((left, side, ap (λ xs. new_left xs left) same), subst (λ xs. AreKnownVariables signature xs) (sym same) known)
-
 pub no_right_side : (signature : Signature) (vs : List Variable) (left : WrittenTerm) (term : List ℕ)
     → ((side : WrittenTerm) → IsWrittenSide signature vs term side → ⊥) → GivesNothing signature (read_right vs left term)
 no_right_side signature vs left term none = ((λ p h. none h.0 h.2), (λ h. none h.0 h.1))
-
-pub fails_with_left : (signature : Signature) (vs : List Variable) (left right : WrittenTerm) (term : List ℕ)
-    → IsWrittenSide signature vs term right → ((statement : Statement) → AreReadSides signature vs left right statement → ⊥)
-    → FailsWithLeft signature (read_right vs left term)
-fails_with_left signature vs left right term side none = (right, side, none)
 
 pub gives_lemma : (signature : Signature) (vs us : List Variable) (left right : WrittenTerm) (term : List ℕ) (statement : Statement)
     → us ≡ vs
@@ -99,33 +76,6 @@ gives_lemma signature vs us left right term statement same side sides =
     (right, statement, side, sides, ap (λ xs. new_lemma xs statement) same)
 
 -- ---- Splits
-
-pub no_split : (signature : Signature) (path : Option (List ℕ)) → path ≡ None → GivesNothing signature (pattern_split path)
-no_split signature None is = ((λ p h. h), (λ h. h))
-no_split signature (Some path) is = absurd (cc is)
-
-pub gives_split : (signature : Signature) (path : Option (List ℕ)) (p : List ℕ) → path ≡ Some p
-    → GivesPiece signature (pattern_split path) (new_tree_line (split_pattern p))
-gives_split signature None p is = absurd (cc is)
-gives_split signature (Some path) p is = ap (λ (o : Option (List ℕ)). by_option o) (sym is)
-  where
-    by_option : Option (List ℕ) → Piece
-    by_option None = new_tree zero
-    by_option (Some q) = new_tree_line (split_pattern q)
-
-pub nothing_left : (signature : Signature) (covers : List Cover) (left : List CodeCase) (name : List ℕ) → left ≡ []
-    → variable_split signature covers (named_cases_in (reverse left)) name ≡ proof_line (split_variable zero) (Some [])
-nothing_left signature covers left name is =
-    ap (λ (cs : List CodeCase). variable_split signature covers (named_cases_in (reverse cs)) name) is
-
-pub last_left : (signature : Signature) (covers : List Cover) (left before : List CodeCase) (point : CodeCase) (name : List ℕ)
-    → left ≡ before ++ point ∷ []
-    → variable_split signature covers (named_cases_in (reverse left)) name
-    ≡ proof_line (split_variable (number_named (named_case_in point).names name))
-    (Some (cases_behind signature covers (named_case_in point) name))
-last_left signature covers left before point name is =
-    ap (λ (cs : List CodeCase). variable_split signature covers (named_cases_in cs) name)
-    (ap reverse is ∙ reverse-append before (point ∷ []))
 
 pub one_item : (fs : List ℕ) (f : ℕ) → length fs ≡ 1 → f ≡ slice_index_or fs 0 f → fs ≡ f ∷ []
 one_item [] f one is = absurd (cc one)

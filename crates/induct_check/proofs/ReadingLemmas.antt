@@ -1,7 +1,7 @@
 -- What was read, piece by piece.
 use Rattle.std.proofs.Common.{◌≡◌, ◌≤◌, ℕ, List, [], ◌∷◌, ◌++◌, Some, slice_get, length, drop, map, refl, ap, sym, ◌∙◌, subst}
-use Rattle.lotos_base.proofs.ExampleHelpers.{Each}
-use Rattle.induct_parts.proofs.HandedOn.{each_front, each_back, each_join}
+use Rattle.lotos_base.proofs.Each.{Each, each_join}
+use Rattle.induct_parts.proofs.HandedOn.{each_front, each_back}
 use Rattle.induct_parts.proofs.StepLemmas.{pushed}
 use Rattle.std.proofs.Common.{Vec, Global}
 use Rattle.lotos_base.specs.Signature.{Signature}
@@ -14,7 +14,7 @@ use Rattle.induct_parts.specs.declared.certificates.ProofLine.{ProofLine}
 use Rattle.induct_parts.specs.HandedOn.induction_certificate as plain
 use Rattle.std.proofs.Math.ListN.{drop_of_length-le}
 use Rattle.std.proofs.lemmas.List.{append-nil}
-use Rattle.induct_check.specs.CertificateReading.{with_last, tree_with, lemma_with, stated}
+use Rattle.induct_check.specs.CertificateReading.{with_last, tree_with, lemma_with, stated_lemma}
 use Rattle.induct_parts.specs.HandedOn.{IsStated}
 use Rattle.lotos_base.specs.Equation.{Variable}
 use Rattle.induct_parts.specs.StatementView.{IsStatementOf, statement_of}
@@ -81,7 +81,7 @@ made_end f all i made whole past none so_far =
 -- a lemma that was just read
 pub newly_known : (signature : Signature) (variables : List Variable) (statement : Statement) (sorts : Vec ℕ Global)
     (lines : Vec ProofLine Global)
-    → sorts.items ≡ map (λ (v : Variable). v.sort) variables → IsStated signature (stated variables (statement_of statement))
+    → sorts.items ≡ map (λ (v : Variable). v.sort) variables → IsStated signature (stated_lemma variables (statement_of statement))
     → IsStatementOf signature statement → IsKnownLemma signature (record { variables = sorts; statement = statement; lines = lines })
 newly_known signature variables statement sorts lines same h over = record {
   stated = record {

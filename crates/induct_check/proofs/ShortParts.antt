@@ -1,6 +1,6 @@
 -- The parts of bytes are no longer than these.
 use Rattle.std.proofs.Common.{◌≤◌, ◌<◌, ◌+◌, ◌^◌, ◌==◌, ℕ, suc, List, [], ◌∷◌, Bool, true, false, length, if◌then◌else◌, arith}
-use Rattle.lotos_base.proofs.ExampleHelpers.{Each}
+use Rattle.lotos_base.proofs.Each.{Each}
 use Rattle.induct_parts.proofs.HandedOn.{each_more}
 use Rattle.induct_check.specs.CertificateLines.{byte_before, parts_at}
 

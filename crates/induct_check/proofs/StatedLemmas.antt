@@ -2,17 +2,18 @@
 use Rattle.std.proofs.Common.{◌≡◌, ◌<◌, ℕ, List, [], ◌∷◌, ◌++◌, Some, slice_get, map, inl, inr, ap, sym, ◌∙◌, subst}
 use Rattle.std.proofs.lemmas.Option.{slice_get_within}
 use Rattle.lotos_base.proofs.Members.{at_map, from_map, member_at}
-use Rattle.lotos_base.specs.Equation.{Variable, Place}
+use Rattle.lotos_base.specs.Equation.{Variable}
 use Rattle.lotos_base.specs.Signature.{Signature, IsSort}
 use Rattle.lotos_base.specs.Sorting.{Occurs, OccursAmong}
 use Rattle.lotos_base.specs.Term.{Term, Terms, variable, node, no_terms, term_then}
 use Rattle.lotos_base.specs.WrittenTerm.{WrittenTerm, WrittenTerms, written, no_written, written_then}
 use Rattle.sort_terms.specs.Reading.{Reads, AllRead, IsSortNamed}
-use Rattle.sort_terms.specs.ReadingOutcome.{ReadingRefusal, ComesTo, answered, SortedPair, IsPairReading, unknown_in}
+use Rattle.sort_terms.specs.ReadingOutcome.{SortedPair, IsPairReading, unknown_in}
 use Rattle.sort_terms.proofs.ReadsLemmas.{reads_sorted}
 use Rattle.syntax_trees.specs.WrittenVariable.{WrittenVariable}
+use Rattle.sort_terms.proofs.OutcomeLemmas.{is_reading}
 use Rattle.induct_parts.specs.HandedOn.{Statement, IsStated}
-use Rattle.induct_check.specs.CertificateReading.{AreNumbered, AreReadSides, stated}
+use Rattle.induct_check.specs.CertificateReading.{AreNumbered, AreReadSides, stated_lemma}
 use Rattle.induct_check.specs.PieceView.{AreKnownVariables}
 
 sort_there : (signature : Signature) (s : ℕ) (name : List ℕ) → IsSortNamed signature s name → IsSort signature s
@@ -72,11 +73,6 @@ listed_there signature variables n s known (i, v, at, numbered, sorted) =
     subst (λ (k : ℕ). slice_get (map (λ (v : Variable). v.sort) variables) k ≡ Some s) is
     (at_map (λ (v : Variable). v.sort) variables i v at ∙ ap (λ (r : ℕ). Some r) sorted)
 
-answer_of : {A : Type 0} (unknown : List ReadingRefusal) (place : Place) (P : A → Type 0) (x : A) → ComesTo unknown place P (answered x)
-    → P x
-answer_of [] place P x h = h.is_answer
-answer_of (r ∷ rs) place P x h = absurd h
-
 sort_listed : (signature : Signature) (variables : List Variable) (n s : ℕ) → AreKnownVariables signature variables
     → slice_get (map (λ (v : Variable). v.sort) variables) n ≡ Some s → IsSort signature s
 sort_listed signature variables n s known at =
@@ -85,11 +81,11 @@ sort_listed signature variables n s known at =
 
 pub sides_stated : (signature : Signature) (variables : List Variable) (left right : WrittenTerm) (statement : Statement)
     → AreKnownVariables signature variables → AreReadSides signature variables left right statement
-    → IsStated signature (stated variables statement)
+    → IsStated signature (stated_lemma variables statement)
 sides_stated signature variables left right statement known sides =
     let pair : SortedPair = record { left = statement.left; right = statement.right; sort = sides.0 } in
     let reads : IsPairReading signature variables left right pair =
-    answer_of (unknown_in signature variables left ++ unknown_in signature variables right) _
+    is_reading (unknown_in signature variables left ++ unknown_in signature variables right) _
     (IsPairReading signature variables left right) pair sides.1 in
     record {
       sort = sides.0;

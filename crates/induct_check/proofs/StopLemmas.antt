@@ -1,7 +1,7 @@
 -- Faults of what was read, and the stop.
 use Rattle.std.proofs.Common.{◌≡◌, ◌↔◌, ℕ, Bool, true, false, not, IsTrue, IsFalse, inl, inr, refl, sym, subst}
 use Rattle.induct_parts.specs.HandedOn.{no_tree}
-use Rattle.induct_parts.specs.FaultView.{HoldsAtLine, HoldsOfFault}
+use Rattle.induct_parts.specs.FaultView.{HoldsAtLine, HoldsOfLineFault}
 use Rattle.induct_parts.specs.declared.at_line.AtLine.{AtLine}
 use Rattle.induct_parts.specs.declared.line_fault.LineFault.{LineFault}
 use Rattle.induct_parts.specs.declared.line_fault.LineFault.TheVariants.{NoTree}
@@ -26,5 +26,5 @@ tree_before stop line f =
 pub lacks_before : (stop : Stop) (at : AtLine) (f : ℕ) → at.fault ≡ NoTree f
     → IsTrue (not stop.early) ↔ HoldsAtLine (ComesBeforeStop stop) at
 lacks_before stop at f is =
-    subst (λ (fault : LineFault). IsTrue (not stop.early) ↔ HoldsOfFault (ComesBeforeStop stop at.line) fault) (sym is)
+    subst (λ (fault : LineFault). IsTrue (not stop.early) ↔ HoldsOfLineFault (ComesBeforeStop stop at.line) fault) (sym is)
     (tree_before stop at.line f)

@@ -6,7 +6,7 @@ use Rattle.lotos_base.specs.WrittenTerm.{PlacedName}
 use Rattle.lotos_lexer.specs.declared.kinds.TheConstants.{NAME, COMMA, COLON}
 use Rattle.lotos_lexer.specs.declared.tokens.Token.{Token}
 use Rattle.lotos_rows.specs.Names.{named, a_name as one_name_token, AreNames, variables_of_sort, AreVariablesOfSort, of_sort, AreVariables, variables}
-use Rattle.lotos_rows.specs.Words.{IsOf, Separated, last, before_more}
+use Rattle.lotos_rows.specs.Words.{IsOfKind, Separated, last, before_more}
 use Rattle.syntax_trees.specs.WrittenVariable.{WrittenVariable}
 use Rattle.induct_check.specs.VariableStates.{Awaited, a_name, comma_or_colon, a_sort, comma_or_end, VariablesRead, none_read, read_tokens, read_on}
 
@@ -18,26 +18,26 @@ at awaited vs ns = record { variables = vs; names = ns; awaited = awaited }
 is_itself : (n : ℕ) → (n == n) ≡ true
 is_itself n = grind arith
 
-of_kind : (kind : ℕ) (token : Token) → IsOf kind token → (token.kind == kind) ≡ true
+of_kind : (kind : ℕ) (token : Token) → IsOfKind kind token → (token.kind == kind) ≡ true
 of_kind kind token is = ap (λ (k : ℕ). k == kind) is.kind_is ∙ is_itself kind
 
-takes_name : (text : List ℕ) (vs : List WrittenVariable) (ns : List PlacedName) (token : Token) (rest : List Token) → IsOf NAME token
+takes_name : (text : List ℕ) (vs : List WrittenVariable) (ns : List PlacedName) (token : Token) (rest : List Token) → IsOfKind NAME token
     → read_tokens text (at a_name vs ns) (token ∷ rest) ≡ read_tokens text (at comma_or_colon vs (ns ++ named text token ∷ [])) rest
 takes_name text vs ns token rest is =
     ap (λ (b : Bool). read_on text (if b then Some (at comma_or_colon vs (ns ++ named text token ∷ [])) else None) rest)
     (of_kind NAME token is)
 
-takes_comma : (text : List ℕ) (vs : List WrittenVariable) (ns : List PlacedName) (token : Token) (rest : List Token) → IsOf COMMA token
+takes_comma : (text : List ℕ) (vs : List WrittenVariable) (ns : List PlacedName) (token : Token) (rest : List Token) → IsOfKind COMMA token
     → read_tokens text (at comma_or_colon vs ns) (token ∷ rest) ≡ read_tokens text (at a_name vs ns) rest
 takes_comma text vs ns token rest is =
     ap (λ (b : Bool). read_on text (if b then Some (at a_name vs ns) else if token.kind == COLON then Some
     (at a_sort vs ns) else None) rest)
     (of_kind COMMA token is)
 
-not_comma : (token : Token) → IsOf COLON token → (token.kind == COMMA) ≡ false
+not_comma : (token : Token) → IsOfKind COLON token → (token.kind == COMMA) ≡ false
 not_comma token is = ap (λ (k : ℕ). k == COMMA) is.kind_is
 
-takes_colon : (text : List ℕ) (vs : List WrittenVariable) (ns : List PlacedName) (token : Token) (rest : List Token) → IsOf COLON token
+takes_colon : (text : List ℕ) (vs : List WrittenVariable) (ns : List PlacedName) (token : Token) (rest : List Token) → IsOfKind COLON token
     → read_tokens text (at comma_or_colon vs ns) (token ∷ rest) ≡ read_tokens text (at a_sort vs ns) rest
 takes_colon text vs ns token rest is =
     ap (λ (b : Bool). read_on text (if b then Some (at a_name vs ns) else if token.kind == COLON then Some
@@ -45,14 +45,14 @@ takes_colon text vs ns token rest is =
     (not_comma token is)
     ∙ ap (λ (b : Bool). read_on text (if b then Some (at a_sort vs ns) else None) rest) (of_kind COLON token is)
 
-takes_sort : (text : List ℕ) (vs : List WrittenVariable) (ns : List PlacedName) (token : Token) (rest : List Token) → IsOf NAME token
+takes_sort : (text : List ℕ) (vs : List WrittenVariable) (ns : List PlacedName) (token : Token) (rest : List Token) → IsOfKind NAME token
     → read_tokens text (at a_sort vs ns) (token ∷ rest)
     ≡ read_tokens text (at comma_or_end (vs ++ variables_of_sort ns (named text token)) []) rest
 takes_sort text vs ns token rest is =
     ap (λ (b : Bool). read_on text (if b then Some (at comma_or_end (vs ++ variables_of_sort ns (named text token)) []) else None) rest)
     (of_kind NAME token is)
 
-takes_next : (text : List ℕ) (vs : List WrittenVariable) (token : Token) (rest : List Token) → IsOf COMMA token
+takes_next : (text : List ℕ) (vs : List WrittenVariable) (token : Token) (rest : List Token) → IsOfKind COMMA token
     → read_tokens text (at comma_or_end vs []) (token ∷ rest) ≡ read_tokens text (at a_name vs []) rest
 takes_next text vs token rest is =
     ap (λ (b : Bool). read_on text (if b then Some (at a_name vs []) else None) rest) (of_kind COMMA token is)
@@ -99,13 +99,14 @@ variables_read text tokens ws (variables {groups = groups} are) = groups_read te
 
 -- ---- What is read, the grammar has
 
-kind_is : (kind : ℕ) (token : Token) → (token.kind == kind) ≡ true → IsOf kind token
+kind_is : (kind : ℕ) (token : Token) → (token.kind == kind) ≡ true → IsOfKind kind token
 kind_is kind token e = record { kind_is = eqb-true token.kind kind e }
 
 -- what stands behind a sort
 pub data GroupsLeft (text : List ℕ) (vs : List WrittenVariable) : List Token → List WrittenVariable → Type 0 where
   no_group : GroupsLeft text vs [] vs
-  groups_left : {comma : Token} {more : List Token} {groups : List (List WrittenVariable)} {ws : List WrittenVariable} → IsOf COMMA comma
+  groups_left : {comma : Token} {more : List Token} {groups : List (List WrittenVariable)} {ws : List WrittenVariable}
+      → IsOfKind COMMA comma
       → Separated COMMA (AreVariablesOfSort text) more groups → ws ≡ vs ++ flat_map (λ (g : List WrittenVariable). g) groups
       → GroupsLeft text vs (comma ∷ more) ws
 
@@ -118,25 +119,25 @@ pub record NamesLeft (text : List ℕ) (vs : List WrittenVariable) (ns : List Pl
   pub sort : Token
   pub rest : List Token
   pub are : AreNames text front names
-  pub is_colon : IsOf COLON colon
-  pub is_sort : IsOf NAME sort
+  pub is_colon : IsOfKind COLON colon
+  pub is_sort : IsOfKind NAME sort
   pub tokens_are : tokens ≡ front ++ colon ∷ sort ∷ rest
   pub behind : GroupsLeft text (vs ++ variables_of_sort (ns ++ names) (named text sort)) rest ws
 
 -- what stands behind a name
 pub data NameEnds (text : List ℕ) (vs : List WrittenVariable) (ns : List PlacedName) : List Token → List WrittenVariable → Type 0 where
-  at_colon : {colon sort : Token} {rest : List Token} {ws : List WrittenVariable} → IsOf COLON colon → IsOf NAME sort
+  at_colon : {colon sort : Token} {rest : List Token} {ws : List WrittenVariable} → IsOfKind COLON colon → IsOfKind NAME sort
       → GroupsLeft text (vs ++ variables_of_sort ns (named text sort)) rest ws → NameEnds text vs ns (colon ∷ sort ∷ rest) ws
-  at_comma : {comma : Token} {rest : List Token} {ws : List WrittenVariable} → IsOf COMMA comma → NamesLeft text vs ns rest ws
+  at_comma : {comma : Token} {rest : List Token} {ws : List WrittenVariable} → IsOfKind COMMA comma → NamesLeft text vs ns rest ws
       → NameEnds text vs ns (comma ∷ rest) ws
 
 -- a sort and what stands behind it
 pub data SortLeft (text : List ℕ) (vs : List WrittenVariable) (ns : List PlacedName) : List Token → List WrittenVariable → Type 0 where
-  a_sort_left : {sort : Token} {rest : List Token} {ws : List WrittenVariable} → IsOf NAME sort
+  a_sort_left : {sort : Token} {rest : List Token} {ws : List WrittenVariable} → IsOfKind NAME sort
       → GroupsLeft text (vs ++ variables_of_sort ns (named text sort)) rest ws → SortLeft text vs ns (sort ∷ rest) ws
 
 with_first_name : (text : List ℕ) (vs : List WrittenVariable) (ns : List PlacedName) (token : Token) (tokens : List Token)
-    (ws : List WrittenVariable) → IsOf NAME token → NameEnds text vs (ns ++ named text token ∷ []) tokens ws
+    (ws : List WrittenVariable) → IsOfKind NAME token → NameEnds text vs (ns ++ named text token ∷ []) tokens ws
     → NamesLeft text vs ns (token ∷ tokens) ws
 with_first_name text vs ns token tokens ws is (at_colon {colon = colon} {sort = sort} {rest = rest} is_colon is_sort left) = record {
   front = token ∷ [];
@@ -165,7 +166,7 @@ with_first_name text vs ns token tokens ws is (at_comma {comma = comma} {rest = 
 }
 
 with_colon : (text : List ℕ) (vs : List WrittenVariable) (ns : List PlacedName) (colon : Token) (tokens : List Token)
-    (ws : List WrittenVariable) → IsOf COLON colon → SortLeft text vs ns tokens ws → NameEnds text vs ns (colon ∷ tokens) ws
+    (ws : List WrittenVariable) → IsOfKind COLON colon → SortLeft text vs ns tokens ws → NameEnds text vs ns (colon ∷ tokens) ws
 with_colon text vs ns colon tokens ws is (a_sort_left is_sort left) = at_colon is is_sort left
 
 pub record AreGroups (text : List ℕ) (vs : List WrittenVariable) (tokens : List Token) (ws : List WrittenVariable) : Type 0 where
@@ -200,7 +201,7 @@ all_groups text vs tokens ws left =
     (group_of text vs tokens ws left) left.behind)
 
 with_groups : (text : List ℕ) (vs : List WrittenVariable) (comma : Token) (tokens : List Token) (ws : List WrittenVariable)
-    → IsOf COMMA comma → AreGroups text vs tokens ws → GroupsLeft text vs (comma ∷ tokens) ws
+    → IsOfKind COMMA comma → AreGroups text vs tokens ws → GroupsLeft text vs (comma ∷ tokens) ws
 with_groups text vs comma tokens ws is groups = groups_left is groups.are groups.flat
 
 pub none_stays : (text : List ℕ) (tokens : List Token) → read_on text None tokens ≡ None

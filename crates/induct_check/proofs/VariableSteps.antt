@@ -1,5 +1,5 @@
 -- Variables numbered one after another.
-use Rattle.std.proofs.Common.{◌≡◌, ◌⊎◌, ◌<◌, ◌≤◌, ◌+◌, Bool, true, false, nat_lt, ltb-true, ltb-false, ℕ, zero, suc, List, [], ◌∷◌, ◌++◌, Some, slice_get, get_or, length, refl, ap, sym, ◌∙◌, subst, inl, inr, arith}
+use Rattle.std.proofs.Common.{◌≡◌, ◌⊎◌, ◌<◌, ◌≤◌, ◌+◌, ℕ, zero, suc, List, [], ◌∷◌, ◌++◌, Some, slice_get, get_or, length, refl, ap, sym, ◌∙◌, subst, inl, inr, arith}
 use Rattle.std.proofs.lemmas.Option.{same_Some, slice_get_within, slice_get-get_or}
 use Rattle.std.proofs.lemmas.List.{length-append, length-map}
 use Rattle.lotos_base.proofs.Members.{member_at, at_map}
@@ -7,8 +7,9 @@ use Rattle.lotos_base.specs.Name.{spelling, AreSame}
 use Rattle.lotos_base.specs.Equation.{Variable}
 use Rattle.lotos_base.specs.Names.{AreOneName}
 use Rattle.lotos_base.specs.Signature.{Signature}
+use Rattle.lotos_base.proofs.Numbers.{compared, split_last}
 use Rattle.sort_terms.specs.Reading.{IsSortNamed}
-use Rattle.syntax_trees.specs.TreeViews.{variable_of, variables_of}
+use Rattle.syntax_trees.specs.TreeViews.{written_variable_of, written_variables_of}
 use Rattle.syntax_trees.specs.WrittenVariable.{WrittenVariable}
 use Rattle.syntax_trees.specs.declared.named.VarText.{VarText}
 use Rattle.induct_check.specs.CertificateReading.{AreNumbered, HaveOwnNames}
@@ -20,28 +21,6 @@ pub record AreNumberedSoFar (signature : Signature) (written : List WrittenVaria
   pub each : (i : ℕ) (w : WrittenVariable) (v : Variable) → slice_get written i ≡ Some w → slice_get variables i ≡ Some v
       → (v.name ≡ w.name) × (v.number ≡ i) × IsSortNamed signature v.sort w.sort
   pub apart : (k : ℕ) → k < n → HasEarlier written k → ⊥
-
-pub none_so_far : (signature : Signature) (written : List WrittenVariable) → AreNumberedSoFar signature written 0 []
-none_so_far signature written = record {
-  count = refl;
-  each = λ i w v at there. absurd (cc there);
-  apart = λ k below h. absurd (omega (arith, below));
-}
-
-below_or_last : (k n : ℕ) → k < n + 1 → (k < n) ⊎ (k ≡ n)
-below_or_last k n below = by (nat_lt k n) refl
-  where
-    by : (b : Bool) → nat_lt k n ≡ b → (k < n) ⊎ (k ≡ n)
-    by true e = inl (ltb-true k n e)
-    by false e = inr (omega (arith, below, ltb-false k n e))
-
-compared : (i j : ℕ) → (i < j) ⊎ ((j < i) ⊎ (i ≡ j))
-compared i j = by (nat_lt i j) (nat_lt j i) refl refl
-  where
-    by : (b c : Bool) → nat_lt i j ≡ b → nat_lt j i ≡ c → (i < j) ⊎ ((j < i) ⊎ (i ≡ j))
-    by true c e f = inl (ltb-true i j e)
-    by false true e f = inr (inl (ltb-true j i f))
-    by false false e f = inr (inr (omega (arith, ltb-false i j e, ltb-false j i f)))
 
 is_at_end : (variables : List Variable) (v u : Variable) (i : ℕ) → slice_get (variables ++ v ∷ []) i ≡ Some u
     → (slice_get variables i ≡ Some u) ⊎ ((i ≡ length variables) × (u ≡ v))
@@ -81,7 +60,7 @@ one_numbered signature written n variables more w v now is at new named numbered
         )
 
     apart_by : (k : ℕ) → k < n + 1 → HasEarlier written k → ⊥
-    apart_by k below h = by (below_or_last k n below)
+    apart_by k below h = by (split_last k n below)
       where
         by : (k < n) ⊎ (k ≡ n) → ⊥
         by (inl less) = now.apart k less h
@@ -105,16 +84,10 @@ all_apart signature written n variables past now i j v w at there same = by (com
         now.apart l (omega (arith, past, slice_get_within written l y second))
         (record { place = k; earlier = x; here = y; before = below; is_earlier = first; is_here = second; one_name = one })
 
-    by : (i < j) ⊎ ((j < i) ⊎ (i ≡ j)) → i ≡ j
+    by : (i < j) ⊎ ((i ≡ j) ⊎ (j < i)) → i ≡ j
     by (inl less) = absurd (earlier i j v w less at there same)
-    by (inr (inl more)) = absurd (earlier j i w v more there at (sym same))
-    by (inr (inr is)) = is
-
--- a name that stands twice, or a sort that is not there, leaves no variables
-pub not_apart : (written : List WrittenVariable) (n : ℕ) → HasEarlier written n → HaveOwnNames written → ⊥
-not_apart written n h apart =
-    let same : h.place ≡ n = apart h.place n h.earlier h.here h.is_earlier h.is_here h.one_name in
-    omega (arith, same, h.before)
+    by (inr (inl is)) = is
+    by (inr (inr more)) = absurd (earlier j i w v more there at (sym same))
 
 pub no_sort : (signature : Signature) (written : List WrittenVariable) (n : ℕ) (w : WrittenVariable) (variables : List Variable)
     → slice_get written n ≡ Some w → ((s : ℕ) → IsSortNamed signature s w.sort → ⊥) → AreNumbered signature written variables → ⊥
@@ -126,15 +99,15 @@ no_sort signature written n w variables at none are =
 -- ---- Earlier ones with one name
 
 read_variable : (written : List VarText) (k : ℕ) (d : VarText) → k < length written
-    → slice_get (variables_of written) k ≡ Some (variable_of (get_or written k d))
-read_variable written k d within = at_map variable_of written k (get_or written k d) (slice_get-get_or written k d within)
+    → slice_get (written_variables_of written) k ≡ Some (written_variable_of (get_or written k d))
+read_variable written k d within = at_map written_variable_of written k (get_or written k d) (slice_get-get_or written k d within)
 
 pub earlier_found : (written : List VarText) (k number : ℕ) (d e : VarText) → k < number → number < length written
-    → AreSame (get_or written k d).name (get_or written number e).name → HasEarlier (variables_of written) number
+    → AreSame (get_or written k d).name (get_or written number e).name → HasEarlier (written_variables_of written) number
 earlier_found written k number d e before within same = record {
   place = k;
-  earlier = variable_of (get_or written k d);
-  here = variable_of (get_or written number e);
+  earlier = written_variable_of (get_or written k d);
+  here = written_variable_of (get_or written number e);
   before = before;
   is_earlier = read_variable written k d (omega (arith, before, within));
   is_here = read_variable written number e within;
@@ -143,28 +116,29 @@ earlier_found written k number d e before within same = record {
 
 pub one_not_earlier : (written : List VarText) (k number : ℕ) (d e : VarText) → k < number → number < length written
     → (AreSame (get_or written k d).name (get_or written number e).name → ⊥)
-    → ((j : ℕ) (v w : WrittenVariable) → j < k → slice_get (variables_of written) j ≡ Some v
-    → slice_get (variables_of written) number ≡ Some w → ¬ AreOneName v.name w.name)
-    → (j : ℕ) (v w : WrittenVariable) → j < k + 1 → slice_get (variables_of written) j ≡ Some v
-    → slice_get (variables_of written) number ≡ Some w → ¬ AreOneName v.name w.name
-one_not_earlier written k number d e before within differ so_far j v w below at here same = by (below_or_last j k below)
+    → ((j : ℕ) (v w : WrittenVariable) → j < k → slice_get (written_variables_of written) j ≡ Some v
+    → slice_get (written_variables_of written) number ≡ Some w → ¬ AreOneName v.name w.name)
+    → (j : ℕ) (v w : WrittenVariable) → j < k + 1 → slice_get (written_variables_of written) j ≡ Some v
+    → slice_get (written_variables_of written) number ≡ Some w → ¬ AreOneName v.name w.name
+one_not_earlier written k number d e before within differ so_far j v w below at here same = by (split_last j k below)
   where
     by : (j < k) ⊎ (j ≡ k) → ⊥
     by (inl less) = so_far j v w less at here same
     by (inr is) =
-        let first : v ≡ variable_of (get_or written k d) =
-        same_Some v (variable_of (get_or written k d))
-        (sym at ∙ (ap (λ (i : ℕ). slice_get (variables_of written) i) is ∙ read_variable written k d (omega (arith, before, within)))) in
-        let second : w ≡ variable_of (get_or written number e) =
-        same_Some w (variable_of (get_or written number e)) (sym here ∙ read_variable written number e within) in
+        let first : v ≡ written_variable_of (get_or written k d) =
+        same_Some v (written_variable_of (get_or written k d))
+        (sym at ∙ (ap (λ (i : ℕ). slice_get (written_variables_of written) i) is
+        ∙ read_variable written k d (omega (arith, before, within)))) in
+        let second : w ≡ written_variable_of (get_or written number e) =
+        same_Some w (written_variable_of (get_or written number e)) (sym here ∙ read_variable written number e within) in
         differ (subst (λ (x : WrittenVariable). AreOneName x.name (spelling (get_or written number e).name)) first
         (subst (λ (y : WrittenVariable). AreOneName v.name y.name) second same))
 
 pub numbered_done : (signature : Signature) (written : List VarText) (n : ℕ) (variables : List Variable) → length written ≤ n
-    → n ≤ length written → AreNumberedSoFar signature (variables_of written) n variables
-    → HaveOwnNames (variables_of written) × AreNumbered signature (variables_of written) variables
+    → n ≤ length written → AreNumberedSoFar signature (written_variables_of written) n variables
+    → HaveOwnNames (written_variables_of written) × AreNumbered signature (written_variables_of written) variables
 numbered_done signature written n variables past within now =
-    let long : length (variables_of written) ≡ length written = length-map written variable_of in (
-      all_apart signature (variables_of written) n variables (omega (arith, long, past)) now,
-      all_numbered signature (variables_of written) n variables (omega (arith, long, past)) (omega (arith, long, within)) now,
+    let long : length (written_variables_of written) ≡ length written = length-map written written_variable_of in (
+      all_apart signature (written_variables_of written) n variables (omega (arith, long, past)) now,
+      all_numbered signature (written_variables_of written) n variables (omega (arith, long, past)) (omega (arith, long, within)) now,
     )

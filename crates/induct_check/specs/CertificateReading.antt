@@ -15,7 +15,7 @@ use Rattle.sort_terms.specs.ReadingOutcome.{one_name, unknown_name, unknown_sort
 use Rattle.syntax_trees.specs.WrittenVariable.{WrittenVariable}
 use Rattle.induct_parts.specs.HandedOn.{Cover, TreeLine, split_pattern, leaf_here, PatternTree, Statement, ProofLine, split_variable}
 use Rattle.induct_parts.specs.HandedOn.{use_it, same_sides, Lemma, Certificate, Numbered, cover_of, in_signature_order}
-use Rattle.induct_check.specs.CertificateLines.{Form, cover_form, tree_form, split_form, lemma_form, left_form, right_form, use_form, leaf_form, same_form, no_form, path_of}
+use Rattle.induct_check.specs.CertificateLines.{LineForm, cover_form, tree_form, split_form, lemma_form, left_form, right_form, use_form, leaf_form, same_form, no_form, path_of}
 
 -- ---- Operations that items list
 
@@ -77,8 +77,8 @@ AreReadSides signature variables left right statement =
     (answered (record { left = statement.left; right = statement.right; sort = sort }))
 
 -- The lemma with these variables and sides, before the lines of its proof.
-abbrev pub stated : List Variable → Statement → Lemma
-stated variables statement =
+abbrev pub stated_lemma : List Variable → Statement → Lemma
+stated_lemma variables statement =
     record { variables = map (λ (v : Variable). v.sort) variables; statement = statement; lines = [] }
 
 -- ---- Names in proofs
@@ -143,17 +143,17 @@ nothing_read = record { certificate = record { covers = []; trees = []; lemmas =
 
 -- What a line asks for by its form: a cover, a tree, a line of a tree, the variables, the left and the right side of a lemma, or a
 -- line of a proof, with the cases by which the first case that is left is replaced, if it is; or the line may not stand there.
-pub data Task : Type 0 where
-  read_cover : (sort items : List ℕ) → Task
-  read_tree : (item : List ℕ) → Task
-  tree_line : TreeLine → Task
-  read_variables : Option (List ℕ) → Task
-  read_left : List Variable → (term : List ℕ) → Task
-  read_right : List Variable → WrittenTerm → (term : List ℕ) → Task
-  proof_line : ProofLine → Option (List NamedCase) → Task
-  no_task : Task
+pub data LineTask : Type 0 where
+  read_cover : (sort items : List ℕ) → LineTask
+  read_tree : (item : List ℕ) → LineTask
+  tree_line : TreeLine → LineTask
+  read_variables : Option (List ℕ) → LineTask
+  read_left : List Variable → (term : List ℕ) → LineTask
+  read_right : List Variable → WrittenTerm → (term : List ℕ) → LineTask
+  proof_line : ProofLine → Option (List NamedCase) → LineTask
+  no_task : LineTask
 
-abbrev pub among_covers_task : Form → Task
+abbrev pub among_covers_task : LineForm → LineTask
 among_covers_task (cover_form sort items) = read_cover sort items
 among_covers_task (tree_form item) = read_tree item
 among_covers_task (split_form word) = no_task
@@ -165,11 +165,11 @@ among_covers_task leaf_form = no_task
 among_covers_task same_form = no_task
 among_covers_task no_form = no_task
 
-abbrev pub pattern_split : Option (List ℕ) → Task
+abbrev pub pattern_split : Option (List ℕ) → LineTask
 pattern_split None = no_task
 pattern_split (Some path) = tree_line (split_pattern path)
 
-abbrev pub in_tree_task : Form → Task
+abbrev pub in_tree_task : LineForm → LineTask
 in_tree_task (cover_form sort items) = no_task
 in_tree_task (tree_form item) = read_tree item
 in_tree_task (split_form word) = pattern_split (path_of word)
@@ -181,7 +181,7 @@ in_tree_task leaf_form = tree_line leaf_here
 in_tree_task same_form = no_task
 in_tree_task no_form = no_task
 
-abbrev pub left_task : List Variable → Form → Task
+abbrev pub left_task : List Variable → LineForm → LineTask
 left_task variables (cover_form sort items) = no_task
 left_task variables (tree_form item) = no_task
 left_task variables (split_form word) = no_task
@@ -193,7 +193,7 @@ left_task variables leaf_form = no_task
 left_task variables same_form = no_task
 left_task variables no_form = no_task
 
-abbrev pub right_task : List Variable → WrittenTerm → Form → Task
+abbrev pub right_task : List Variable → WrittenTerm → LineForm → LineTask
 right_task variables left (cover_form sort items) = no_task
 right_task variables left (tree_form item) = no_task
 right_task variables left (split_form word) = no_task
@@ -206,12 +206,12 @@ right_task variables left same_form = no_task
 right_task variables left no_form = no_task
 
 -- the split of a variable of the first case that is left, if one is
-abbrev pub variable_split : Signature → List Cover → List NamedCase → List ℕ → Task
+abbrev pub variable_split : Signature → List Cover → List NamedCase → List ℕ → LineTask
 variable_split signature covers [] name = proof_line (split_variable zero) (Some [])
 variable_split signature covers (point ∷ points) name =
     proof_line (split_variable (number_named point.names name)) (Some (cases_behind signature covers point name))
 
-abbrev pub in_proof_task : Signature → List Cover → List NamedCase → Form → Task
+abbrev pub in_proof_task : Signature → List Cover → List NamedCase → LineForm → LineTask
 in_proof_task signature covers left (cover_form sort items) = no_task
 in_proof_task signature covers left (tree_form item) = no_task
 in_proof_task signature covers left (split_form word) = variable_split signature covers left word
@@ -223,12 +223,12 @@ in_proof_task signature covers left leaf_form = no_task
 in_proof_task signature covers left same_form = proof_line same_sides (Some [])
 in_proof_task signature covers left no_form = no_task
 
-abbrev pub task_of : Signature → List Cover → OpenPart → Form → Task
-task_of signature covers among_covers form = among_covers_task form
-task_of signature covers in_tree form = in_tree_task form
-task_of signature covers (behind_variables variables) form = left_task variables form
-task_of signature covers (behind_left variables left) form = right_task variables left form
-task_of signature covers (in_proof left) form = in_proof_task signature covers left form
+abbrev pub line_task_of : Signature → List Cover → OpenPart → LineForm → LineTask
+line_task_of signature covers among_covers form = among_covers_task form
+line_task_of signature covers in_tree form = in_tree_task form
+line_task_of signature covers (behind_variables variables) form = left_task variables form
+line_task_of signature covers (behind_left variables left) form = right_task variables left form
+line_task_of signature covers (in_proof left) form = in_proof_task signature covers left form
 
 -- ---- What a line gives
 
@@ -243,7 +243,7 @@ pub data Piece : Type 0 where
   new_proof_line : ProofLine → Option (List NamedCase) → Piece
 
 -- The line that asks for this gives the piece.
-abbrev pub GivesPiece : Signature → Task → Piece → Type 0
+abbrev pub GivesPiece : Signature → LineTask → Piece → Type 0
 GivesPiece signature (read_cover sort items) piece =
     (cover : Cover) × IsWrittenCover signature sort items cover × (piece ≡ new_cover cover)
 GivesPiece signature (read_tree item) piece =
@@ -260,7 +260,7 @@ GivesPiece signature (proof_line line cases) piece = piece ≡ new_proof_line li
 GivesPiece signature no_task piece = ⊥
 
 -- The line is a right side by itself, but with the left side it has no pair of readings with one sort, or several.
-abbrev pub FailsWithLeft : Signature → Task → Type 0
+abbrev pub FailsWithLeft : Signature → LineTask → Type 0
 FailsWithLeft signature (read_cover sort items) = ⊥
 FailsWithLeft signature (read_tree item) = ⊥
 FailsWithLeft signature (tree_line line) = ⊥
@@ -336,7 +336,7 @@ with_piece reading (new_lemma variables statement) = record {
   certificate = record {
     covers = reading.certificate.covers;
     trees = reading.certificate.trees;
-    lemmas = reading.certificate.lemmas ++ stated variables statement ∷ [];
+    lemmas = reading.certificate.lemmas ++ stated_lemma variables statement ∷ [];
   };
   part = in_proof (first_names variables ∷ []);
 }

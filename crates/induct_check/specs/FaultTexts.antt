@@ -20,8 +20,8 @@ abbrev pub with_line : (refusal : List ℕ) (line : ℕ) (behind : List ℕ) →
 with_line refusal line behind = codes "refused " ++ refusal ++ codes " line " ++ decimal line ++ behind ++ codes "\n"
 
 -- two sides that differ
-abbrev pub sides_text : Signature → Statement → List ℕ
-sides_text signature statement =
+abbrev pub differing_sides_text : Signature → Statement → List ℕ
+differing_sides_text signature statement =
     codes " " ++ term_text signature [] statement.left ++ codes " and " ++ term_text signature [] statement.right
 
 abbrev pub fault_text : Signature → ℕ → InductionFault → List ℕ
@@ -33,7 +33,7 @@ fault_text signature line (no_tree f) =
 fault_text signature line not_reducible = with_line (codes "915 NotReducible") line []
 fault_text signature line bad_use = with_line (codes "916 BadUse") line []
 fault_text signature line (not_same statement) =
-    with_line (codes "917 NotSame") line (sides_text signature (shown_statement statement))
+    with_line (codes "917 NotSame") line (differing_sides_text signature (shown_statement statement))
 
 -- what the code writes of a fault at a line; nothing is written of want of memory
 abbrev pub IsTold : Signature → ℕ → LineFault → List ℕ → Type 0

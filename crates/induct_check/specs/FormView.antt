@@ -6,7 +6,7 @@ use Rattle.induct_check.specs.CertificateLines as plain
 use Rattle.induct_check.specs.declared.forms.Form.{Form}
 use Rattle.induct_check.specs.declared.forms.Form.TheVariants.{Cover, Tree, Split, Lemma, Left, Right, Use, Leaf, Same, Nothing}
 
-abbrev pub form_in : Form → plain.Form
+abbrev pub form_in : Form → plain.LineForm
 form_in (Cover sort items) = plain.cover_form sort.now items.now
 form_in (Tree item) = plain.tree_form item.now
 form_in (Split word) = plain.split_form word.now
@@ -19,7 +19,7 @@ form_in Same = plain.same_form
 form_in Nothing = plain.no_form
 
 -- The texts in the form that are read as variables or terms are short.
-abbrev pub IsShort : plain.Form → Type 0
+abbrev pub IsShort : plain.LineForm → Type 0
 IsShort (plain.cover_form sort items) = Unit {0}
 IsShort (plain.tree_form item) = Unit {0}
 IsShort (plain.split_form word) = Unit {0}

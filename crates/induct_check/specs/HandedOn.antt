@@ -4,7 +4,7 @@ pub use Rattle.induct_parts.specs.HandedOn.{not_reducible, bad_use, not_same, Ho
 pub use Rattle.induct_parts.specs.HandedOn.{RequirementsAreMetOnce, MetIsNotOpen, FirstFaultsAreOne, RightOnesHaveNoFault, IsCoveredBy}
 pub use Rattle.induct_parts.specs.HandedOn.{Theory}
 pub use Rattle.induct_parts.specs.CertificateView.{lemmas_in}
-pub use Rattle.induct_parts.specs.FaultView.{HoldsOfFault, HoldsAtLine}
+pub use Rattle.induct_parts.specs.FaultView.{HoldsOfLineFault, HoldsAtLine}
 pub use Rattle.induct_parts.specs.SettingView.{AllLemmasHold, AllCovered, IsKnownLemma}
 pub use Rattle.induct_parts.specs.StatementView.{statement_of}
 pub use Rattle.induct_parts.specs.declared.at_line.AtLine.{AtLine}

@@ -10,7 +10,7 @@ use Rattle.induct_parts.specs.HandedOn.{IsStated}
 use Rattle.induct_parts.specs.CertificateView.{cover_in, tree_line_of, proof_line_of}
 use Rattle.induct_parts.specs.StatementView.{IsStatementOf, statement_of}
 use Rattle.induct_check.specs.CertificateReading as plain
-use Rattle.induct_check.specs.CertificateReading.{OpenPart, among_covers, in_tree, behind_variables, behind_left, in_proof, Task, GivesPiece, FailsWithLeft, stated}
+use Rattle.induct_check.specs.CertificateReading.{OpenPart, among_covers, in_tree, behind_variables, behind_left, in_proof, LineTask, GivesPiece, FailsWithLeft, stated_lemma}
 use Rattle.induct_check.specs.NameView.{named_cases_in}
 use Rattle.induct_check.specs.declared.pieces.Part.{Part}
 use Rattle.induct_check.specs.declared.pieces.Part.TheVariants as part
@@ -19,12 +19,12 @@ use Rattle.induct_check.specs.declared.pieces.Piece.TheVariants as piece
 use Rattle.induct_check.specs.declared.pieces.LineOutcome.{LineOutcome}
 use Rattle.induct_check.specs.declared.pieces.LineOutcome.TheVariants as outcome
 
-abbrev pub part_in : Part → OpenPart
-part_in part.Covers = among_covers
-part_in part.Tree = in_tree
-part_in (part.Variables variables) = behind_variables (map variable_of variables.items)
-part_in (part.Left variables left) = behind_left (map variable_of variables.items) (written_term_of left)
-part_in (part.Proof left) = in_proof (named_cases_in (reverse left.items))
+abbrev pub open_part_in : Part → OpenPart
+open_part_in part.Covers = among_covers
+open_part_in part.Tree = in_tree
+open_part_in (part.Variables variables) = behind_variables (map variable_of variables.items)
+open_part_in (part.Left variables left) = behind_left (map variable_of variables.items) (written_term_of left)
+open_part_in (part.Proof left) = in_proof (named_cases_in (reverse left.items))
 
 abbrev pub piece_in : Piece → plain.Piece
 piece_in (piece.Cover cover) = plain.new_cover (cover_in cover)
@@ -56,11 +56,11 @@ IsKnownPiece signature (piece.TreeLine line) = Unit {0}
 IsKnownPiece signature (piece.Variables variables) = AreKnownVariables signature (map variable_of variables.items)
 IsKnownPiece signature (piece.Left variables left) = AreKnownVariables signature (map variable_of variables.items)
 IsKnownPiece signature (piece.Lemma variables statement) =
-    IsStated signature (stated (map variable_of variables.items) (statement_of statement)) × IsStatementOf signature statement
+    IsStated signature (stated_lemma (map variable_of variables.items) (statement_of statement)) × IsStatementOf signature statement
 IsKnownPiece signature (piece.ProofLine line cases) = Unit {0}
 
 -- What becomes of a line that asks for this.
-abbrev pub IsUnderstood : Signature → Task → LineOutcome → Type 0
+abbrev pub IsUnderstood : Signature → LineTask → LineOutcome → Type 0
 IsUnderstood signature task (outcome.Piece piece) = GivesPiece signature task (piece_in piece) × IsKnownPiece signature piece
 IsUnderstood signature task outcome.Nothing =
     ((piece : plain.Piece) → ¬ GivesPiece signature task piece) × (¬ FailsWithLeft signature task)

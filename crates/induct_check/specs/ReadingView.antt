@@ -5,7 +5,7 @@ use Rattle.lotos_base.specs.Signature.{Signature}
 use Rattle.induct_parts.specs.CertificateView.{certificate_in}
 use Rattle.induct_parts.specs.SettingView.{IsKnownCertificate}
 use Rattle.induct_check.specs.CertificateReading.{ReadSoFar}
-use Rattle.induct_check.specs.PieceView.{part_in, IsKnownPart}
+use Rattle.induct_check.specs.PieceView.{open_part_in, IsKnownPart}
 use Rattle.induct_check.specs.TextFaults as plain
 use Rattle.induct_check.specs.TextFaults.{ReadText}
 use Rattle.induct_check.specs.declared.reading.Reading.{Reading}
@@ -13,7 +13,7 @@ use Rattle.induct_check.specs.declared.reading.Read.{Read}
 use Rattle.induct_check.specs.declared.reading.Stop.{Stop}
 
 abbrev pub reading_in : Reading → ReadSoFar
-reading_in reading = record { certificate = certificate_in reading.certificate; part = part_in reading.part }
+reading_in reading = record { certificate = certificate_in reading.certificate; part = open_part_in reading.part }
 
 abbrev pub stop_of : Stop → plain.Stop
 stop_of stop = record { line = stop.line; early = stop.early }
@@ -28,4 +28,4 @@ stopping reading stop = record { certificate = certificate_in reading.certificat
 -- The certificate and the open part are known.
 pub record IsKnownReading (signature : Signature) (reading : Reading) : Type 0 where
   pub certificate : IsKnownCertificate signature reading.certificate
-  pub part : IsKnownPart signature (part_in reading.part)
+  pub part : IsKnownPart signature (open_part_in reading.part)

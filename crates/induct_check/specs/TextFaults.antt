@@ -3,14 +3,14 @@ use Rattle.std.specs.Prelude.{◌≡◌, ◌⊎◌, ◌<◌, ℕ, suc, List, [],
 use Rattle.std.specs.Str.{bytes_eq}
 use Rattle.lotos_base.specs.Signature.{Signature}
 use Rattle.induct_parts.specs.HandedOn.{Certificate, InductionFault, bad_line, no_tree, Theory, IsInductionFault}
-use Rattle.induct_check.specs.CertificateLines.{parts_at, cut_at_blank, form_of}
-use Rattle.induct_check.specs.CertificateReading.{OpenPart, among_covers, in_tree, behind_variables, behind_left, in_proof, ReadSoFar, nothing_read, Task, task_of, Piece, GivesPiece, FailsWithLeft, with_piece}
+use Rattle.induct_check.specs.CertificateLines.{parts_at, cut_at_blank, line_form_of}
+use Rattle.induct_check.specs.CertificateReading.{OpenPart, among_covers, in_tree, behind_variables, behind_left, in_proof, ReadSoFar, nothing_read, LineTask, line_task_of, Piece, GivesPiece, FailsWithLeft, with_piece}
 
 -- ---- Line by line
 
 -- what the line asks for behind what was read
-abbrev pub task_behind : Signature → ReadSoFar → List ℕ → Task
-task_behind signature reading line = task_of signature reading.certificate.covers reading.part (form_of line)
+abbrev pub task_behind : Signature → ReadSoFar → List ℕ → LineTask
+task_behind signature reading line = line_task_of signature reading.certificate.covers reading.part (line_form_of line)
 
 -- The line gives the piece behind what was read.
 abbrev pub LineGives : Signature → ReadSoFar → List ℕ → Piece → Type 0
@@ -43,12 +43,12 @@ pub record ReadText : Type 0 where
   pub certificate : Certificate
   pub stop : Option Stop
 
-abbrev pub stopped : ReadSoFar → ℕ → Bool → ReadText
-stopped reading line early =
+abbrev pub stopped_reading : ReadSoFar → ℕ → Bool → ReadText
+stopped_reading reading line early =
     record { certificate = reading.certificate; stop = Some (record { line = line; early = early }) }
 
 abbrev pub stopped_at : ReadSoFar → ℕ → List ℕ → ReadText
-stopped_at reading told line = stopped reading told (stands_early reading.part (cut_at_blank line).word)
+stopped_at reading told line = stopped_reading reading told (stands_early reading.part (cut_at_blank line).word)
 
 -- The lines from this number on come to this, behind what was read. The last part of a text is no line; it is empty where the last
 -- line ends with its line feed.
@@ -57,7 +57,7 @@ pub data LinesReadTo (signature : Signature) : ℕ → ReadSoFar → List (List 
       → LinesReadTo signature number reading ([] ∷ []) (record { certificate = reading.certificate; stop = None })
   -- a line of the head of a lemma is missing
   lacks_a_line : {number : ℕ} {reading : ReadSoFar} → IsFalse (may_end reading.part)
-      → LinesReadTo signature number reading ([] ∷ []) (stopped reading number false)
+      → LinesReadTo signature number reading ([] ∷ []) (stopped_reading reading number false)
   -- the last line lacks its line feed
   lacks_line_feed : {number byte : ℕ} {bytes : List ℕ} {reading : ReadSoFar}
       → LinesReadTo signature number reading ((byte ∷ bytes) ∷ []) (stopped_at reading number (byte ∷ bytes))

@@ -22,24 +22,24 @@ none_read = record { variables = []; names = []; awaited = a_name }
 abbrev pub awaiting : VariablesRead → Awaited → VariablesRead
 awaiting read awaited = record { variables = read.variables; names = read.names; awaited = awaited }
 
-abbrev pub with_name : VariablesRead → PlacedName → VariablesRead
-with_name read name =
+abbrev pub with_variable_name : VariablesRead → PlacedName → VariablesRead
+with_variable_name read name =
     record { variables = read.variables; names = read.names ++ name ∷ []; awaited = comma_or_colon }
 
-abbrev pub with_sort : VariablesRead → PlacedName → VariablesRead
-with_sort read sort =
+abbrev pub with_variable_sort : VariablesRead → PlacedName → VariablesRead
+with_variable_sort read sort =
     record { variables = read.variables ++ variables_of_sort read.names sort; names = []; awaited = comma_or_end }
 
 -- what a token makes of what was read, if it may stand there
 abbrev pub read_token_at : Awaited → List ℕ → VariablesRead → Token → Option VariablesRead
 read_token_at a_name text read token =
-    if token.kind == NAME then Some (with_name read (named text token)) else None
+    if token.kind == NAME then Some (with_variable_name read (named text token)) else None
 read_token_at comma_or_colon text read token =
     if token.kind == COMMA then Some (awaiting read a_name)
     else if token.kind == COLON then Some (awaiting read a_sort)
     else None
 read_token_at a_sort text read token =
-    if token.kind == NAME then Some (with_sort read (named text token)) else None
+    if token.kind == NAME then Some (with_variable_sort read (named text token)) else None
 read_token_at comma_or_end text read token =
     if token.kind == COMMA then Some (awaiting read a_name) else None
 
@@ -56,8 +56,8 @@ abbrev pub read_tokens : List ℕ → VariablesRead → List Token → Option Va
 read_tokens text read tokens = read_on text (Some read) tokens
 
 -- the variables that were read, if the end may come
-abbrev pub variables_at : Awaited → VariablesRead → Option (List WrittenVariable)
-variables_at a_name read = None
-variables_at comma_or_colon read = None
-variables_at a_sort read = None
-variables_at comma_or_end read = Some read.variables
+abbrev pub variables_if_ended : Awaited → VariablesRead → Option (List WrittenVariable)
+variables_if_ended a_name read = None
+variables_if_ended comma_or_colon read = None
+variables_if_ended a_sort read = None
+variables_if_ended comma_or_end read = Some read.variables

@@ -2,7 +2,7 @@
 use Rattle.std.specs.Prelude.{◌≡◌, ◌<◌, ℕ, List, Bool, true, false, Option, None, Some, map, slice_get}
 use Rattle.lotos_base.specs.Names.{AreOneName}
 use Rattle.lotos_base.specs.WrittenView.{placed_name_of}
-use Rattle.syntax_trees.specs.TreeViews.{variables_of}
+use Rattle.syntax_trees.specs.TreeViews.{written_variables_of}
 use Rattle.syntax_trees.specs.WrittenVariable.{WrittenVariable}
 use Rattle.induct_check.specs.VariableStates as plain
 use Rattle.induct_check.specs.declared.variables.Awaited.{Awaited}
@@ -17,7 +17,7 @@ awaited_of CommaOrEnd = plain.comma_or_end
 
 abbrev pub read_in : VariablesRead → plain.VariablesRead
 read_in read = record {
-  variables = variables_of read.variables.items;
+  variables = written_variables_of read.variables.items;
   names = map placed_name_of read.names.items;
   awaited = awaited_of read.awaited;
 }

@@ -7,7 +7,7 @@ ghost use Rattle.induct_check.specs.TextFaults.{IsTextFault};
 ghost use Rattle.induct_parts.specs.CertificateView.{lemmas_in};
 ghost use Rattle.induct_parts.specs.FaultView.{HoldsAtLine};
 ghost use Rattle.induct_parts.specs.SettingView.{AllLemmasHold, IsKnownLemma};
-ghost use Rattle.lotos_base.proofs.ExampleHelpers.{Each};
+ghost use Rattle.lotos_base.proofs.Each.{Each};
 ghost use Rattle.sort_terms.specs.EquationView.{data_of};
 ghost use Rattle.std.specs.Prelude.{◌≡◌, ◌+◌, ◌<◌, ◌^◌, IfErr, IfOk, length};
 

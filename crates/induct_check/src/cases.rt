@@ -3,7 +3,7 @@
 
 ghost use Rattle.induct_check.specs.LineCases.{
   LinesHaveForms,
-  LinesHaveNoForm,
+  CertificateLinesHaveNoForm,
   TextsHaveLines,
   WordsArePaths,
 };
@@ -15,7 +15,7 @@ pub fn lines_have_forms()
 
 /// Lines that have none.
 pub fn lines_have_no_form()
-    ensures { LinesHaveNoForm }
+    ensures { CertificateLinesHaveNoForm }
 {}
 
 /// Words that are paths, and others.

@@ -22,7 +22,7 @@ ghost use Rattle.induct_parts.specs.SettingView.{
   known_theory,
 };
 ghost use Rattle.induct_parts.specs.declared.line_fault.LineFault.TheVariants.{BadLine};
-ghost use Rattle.lotos_base.proofs.ExampleHelpers.{Each};
+ghost use Rattle.lotos_base.proofs.Each.{Each};
 ghost use Rattle.path_order.specs.RulesView.{plain_rules_in};
 ghost use Rattle.sort_terms.specs.SignatureView.{signature_of};
 ghost use Rattle.std.specs.Option.{option_map};

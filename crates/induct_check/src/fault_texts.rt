@@ -1,6 +1,6 @@
 //! The line that is printed for the first fault of a certificate.
 
-ghost use Rattle.induct_check.specs.FaultTexts.{IsTold, operation_name, sides_text, with_line};
+ghost use Rattle.induct_check.specs.FaultTexts.{IsTold, operation_name, differing_sides_text, with_line};
 ghost use Rattle.induct_parts.specs.Shown.{shown_statement};
 ghost use Rattle.induct_parts.specs.StatementView.{statement_of};
 ghost use Rattle.sort_terms.specs.SignatureView.{signature_of};
@@ -84,7 +84,7 @@ fn sides_line(
     statement: &Statement,
 ) -> Result<Vec<u8>, NoMemory>
     ensures { IfOk result (λ text. text.items ≡ with_line (codes "917 NotSame") line
-        (sides_text (signature_of signature.now) (shown_statement (statement_of
+        (differing_sides_text (signature_of signature.now) (shown_statement (statement_of
         statement.now)))) }
 {
     let seen = shown(alloc, statement)?;
@@ -100,7 +100,7 @@ fn push_sides(
     into: &mut Vec<u8>,
 ) -> Result<(), NoMemory>
     ensures { OnOk result (into.new.items ≡ into.old.items
-        ++ sides_text (signature_of signature.now) (statement_of statement.now)) }
+        ++ differing_sides_text (signature_of signature.now) (statement_of statement.now)) }
 {
     push_text(into, b" ")?;
     push_phrase(signature, &[], statement.left.term(), false, into)?;

@@ -2,7 +2,7 @@
 
 ghost use Rattle.induct_check.specs.CertificateLines as plain;
 ghost use Rattle.induct_check.specs.FormView.{form_in};
-ghost use Rattle.induct_parts.specs.CertificateView.{direction_of, side_of, source_of, use_of};
+ghost use Rattle.induct_parts.specs.CertificateView.{direction_of, use_side_of, use_source_of, use_of};
 ghost use Rattle.std.specs.Option.{option_map};
 ghost use Rattle.std.specs.Prelude.{◌≡◌, IfOk, map};
 
@@ -39,7 +39,7 @@ pub enum Form<'a> {
 
 /// The form of the line.
 pub fn form_of(alloc: Global, line: &[u8]) -> Result<Form<'_>, NoMemory>
-    ensures { IfOk result (λ form. form_in form ≡ plain.form_of line.now) }
+    ensures { IfOk result (λ form. form_in form ≡ plain.line_form_of line.now) }
 {
     match cut(line) {
         (word, None) => Ok(form_alone(word)),
@@ -144,8 +144,8 @@ fn use_from(
     path: Option<Vec<u32>>,
     direction: Option<Direction>,
 ) -> Option<Use>
-    ensures { option_map use_of result ≡ plain.use_from (option_map source_of source)
-        (option_map side_of side) (option_map (λ p. p.items) path)
+    ensures { option_map use_of result ≡ plain.use_from (option_map use_source_of source)
+        (option_map use_side_of side) (option_map (λ p. p.items) path)
         (option_map direction_of direction) }
 {
     let source = source?;
@@ -162,7 +162,7 @@ fn use_from(
 
 // The lemma or the hypothesis with a number.
 fn source_named(kind: &[u8], number: &[u8]) -> Option<Source>
-    ensures { option_map source_of result ≡ plain.source_of kind.now number.now }
+    ensures { option_map use_source_of result ≡ plain.source_of_words kind.now number.now }
 {
     if kind == b"lemma".as_slice() {
         let number = number_of(number)?;
@@ -177,7 +177,7 @@ fn source_named(kind: &[u8], number: &[u8]) -> Option<Source>
 
 // The side with the name.
 fn side_named(word: &[u8]) -> Option<Side>
-    ensures { option_map side_of result ≡ plain.side_of word.now }
+    ensures { option_map use_side_of result ≡ plain.side_of_word word.now }
 {
     if word == b"left".as_slice() {
         Some(Side::Left)
@@ -190,7 +190,7 @@ fn side_named(word: &[u8]) -> Option<Side>
 
 // The direction with the name.
 fn direction_named(word: &[u8]) -> Option<Direction>
-    ensures { option_map direction_of result ≡ plain.direction_of word.now }
+    ensures { option_map direction_of result ≡ plain.direction_of_word word.now }
 {
     if word == b"forward".as_slice() {
         Some(Direction::Forward)

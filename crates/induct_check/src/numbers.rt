@@ -3,10 +3,10 @@
 ghost use Rattle.induct_check.specs.CertificateLines.{
   at_most,
   from_nought,
-  is_number as is_a_number,
+  is_certificate_number as is_a_number,
   most,
-  number_of as number_in,
-  numbers_of as numbers_in,
+  number_of_word as number_in,
+  numbers_of_words as numbers_in,
   path_of as path_in,
 };
 ghost use Rattle.std.specs.Char.{is_ascii_digit};

@@ -1,7 +1,7 @@
 //! What each line of a certificate gives.
 
 ghost use Rattle.induct_check.specs.CertificateLines.{
-  form_of as plain_form_of,
+  line_form_of as plain_form_of,
   path_of as plain_path_of,
 };
 ghost use Rattle.induct_check.specs.CertificateReading.{
@@ -16,7 +16,7 @@ ghost use Rattle.induct_check.specs.CertificateReading.{
   read_tree,
   read_variables,
   right_task,
-  task_of,
+  line_task_of,
   variable_split,
 };
 ghost use Rattle.induct_check.specs.FormView.{IsShort, form_in};
@@ -26,7 +26,7 @@ ghost use Rattle.induct_check.specs.PieceView.{
   AreKnownVariables,
   IsKnownPart,
   IsUnderstood,
-  part_in,
+  open_part_in,
 };
 ghost use Rattle.induct_parts.specs.CertificateView.{covers_in};
 ghost use Rattle.lotos_base.specs.WrittenView.{written_term_of};
@@ -111,10 +111,10 @@ pub fn understood(
     line: &[u8],
 ) -> Result<LineOutcome, NoMemory>
     requires known { HasKnownSignature known.now }
-    requires part { IsKnownPart (known_signature known.now) (part_in part.now) }
+    requires part { IsKnownPart (known_signature known.now) (open_part_in part.now) }
     requires short { length line.now + 1 < 2 ^ 32 }
     ensures { IfOk result (IsUnderstood (known_signature known.now)
-        (task_of (known_signature known.now) (covers_in covers.now) (part_in part.now)
+        (line_task_of (known_signature known.now) (covers_in covers.now) (open_part_in part.now)
         (plain_form_of line.now))) }
 {
     let form = form_of(known.alloc, line)?;

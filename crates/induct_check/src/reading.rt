@@ -6,14 +6,14 @@ ghost use Rattle.induct_check.specs.CertificateReading.{
   new_proof_line,
   nothing_read,
   proof_behind,
-  stated,
+  stated_lemma,
   tree_with,
   with_last,
   with_piece,
 };
 ghost use Rattle.induct_check.specs.KnownView.{HasKnownSignature, known_signature};
 ghost use Rattle.induct_check.specs.NameView.{named_cases_in};
-ghost use Rattle.induct_check.specs.PieceView.{IsKnownPart, IsKnownPiece, part_in, piece_in};
+ghost use Rattle.induct_check.specs.PieceView.{IsKnownPart, IsKnownPiece, open_part_in, piece_in};
 ghost use Rattle.induct_check.specs.ReadingView.{IsKnownReading, read_text, reading_in, stopping};
 ghost use Rattle.induct_check.specs.TextFaults.{
   LinesReadTo,
@@ -31,7 +31,7 @@ ghost use Rattle.induct_parts.specs.CertificateView.{
 ghost use Rattle.induct_parts.specs.HandedOn.{IsStated};
 ghost use Rattle.induct_parts.specs.SettingView.{IsKnownCertificate, IsKnownLemma};
 ghost use Rattle.induct_parts.specs.StatementView.{IsStatementOf, statement_of};
-ghost use Rattle.lotos_base.proofs.ExampleHelpers.{Each};
+ghost use Rattle.lotos_base.proofs.Each.{Each};
 ghost use Rattle.lotos_base.specs.Equation.{Variable as PlainVariable};
 ghost use Rattle.lotos_base.specs.Signature.{IsOperation, Operation, Signature};
 ghost use Rattle.sort_terms.specs.EquationView.{variable_of};
@@ -185,7 +185,7 @@ fn ended(reading: &Reading, number: usize, rest: &[u8]) -> Option<Stop>
 
 // Whether the text may end: nothing of the head of a lemma is missing.
 fn may_end(part: &Part) -> bool
-    ensures { result ≡ may_end_behind (part_in part.now) }
+    ensures { result ≡ may_end_behind (open_part_in part.now) }
 {
     match part {
         Part::Variables(_) | Part::Left(_, _) => false,
@@ -195,7 +195,7 @@ fn may_end(part: &Part) -> bool
 
 // Whether a line with this first word stands among the covers or in a tree.
 fn stands_early(part: &Part, word: &[u8]) -> bool
-    ensures { result ≡ stands_early_in (part_in part.now) word.now }
+    ensures { result ≡ stands_early_in (open_part_in part.now) word.now }
 {
     match part {
         Part::Covers => word == b"cover".as_slice() || word == b"tree".as_slice(),
@@ -268,7 +268,7 @@ fn add_lemma(
         (new_lemma (map variable_of variables.items) (statement_of statement))) }
     ensures known { OnOk result (IsKnownReading (known_signature known.now) reading.old
         → IsStated (known_signature known.now)
-        (stated (map variable_of variables.items) (statement_of statement))
+        (stated_lemma (map variable_of variables.items) (statement_of statement))
         → IsStatementOf (known_signature known.now) statement
         → IsKnownReading (known_signature known.now) reading.new) }
 {
@@ -334,10 +334,11 @@ fn add_to_lemma(lemmas: &mut Vec<StatedLemma>, line: ProofLine) -> Result<(), No
 
 // In a proof, replaces the first case that is left by these.
 fn replace_first(part: &mut Part, cases: Vec<NamedCase>) -> Result<(), NoMemory>
-    ensures replaced { OnOk result (part_in part.new
-        ≡ proof_behind (Some (named_cases_in cases.items)) (part_in part.old)) }
-    ensures known { OnOk result ((signature : Signature) → IsKnownPart signature (part_in part.old)
-        → IsKnownPart signature (part_in part.new)) }
+    ensures replaced { OnOk result (open_part_in part.new
+        ≡ proof_behind (Some (named_cases_in cases.items)) (open_part_in part.old)) }
+    ensures known { OnOk result
+        ((signature : Signature) → IsKnownPart signature (open_part_in part.old)
+        → IsKnownPart signature (open_part_in part.new)) }
 {
     let Part::Proof(left) = part else {
         return Ok(());

@@ -7,7 +7,7 @@ ghost use Rattle.induct_check.specs.CertificateReading.{
   AreVariablesIn,
 };
 ghost use Rattle.induct_check.specs.KnownView.{HasKnownSignature, known_signature};
-ghost use Rattle.induct_check.specs.VariableStates.{read_token, with_sort};
+ghost use Rattle.induct_check.specs.VariableStates.{read_token, with_variable_sort};
 ghost use Rattle.induct_check.specs.VariableView.{VariablesGoOn, HasEarlier, read_in};
 ghost use Rattle.lotos_base.specs.Equation.{Variable as PlainVariable};
 ghost use Rattle.lotos_base.specs.Name.{spelling};
@@ -31,7 +31,7 @@ ghost use Rattle.std.specs.Prelude.{
   length,
   map,
 };
-ghost use Rattle.syntax_trees.specs.TreeViews.{variables_of};
+ghost use Rattle.syntax_trees.specs.TreeViews.{written_variables_of};
 ghost use Rattle.syntax_trees.specs.WrittenVariable.{WrittenVariable};
 
 use crate::known::Known;
@@ -95,7 +95,7 @@ fn variables_in(alloc: Global, text: &[u8]) -> Result<Option<Vec<VarText>>, NoMe
     requires { length text.now < 2 ^ 32 }
     ensures { IfOk result (λ found. MatchOption found
         ((ws : List WrittenVariable) → ¬ AreVariablesIn text.now ws)
-        (λ vs. AreVariablesIn text.now (variables_of vs.items))) }
+        (λ vs. AreVariablesIn text.now (written_variables_of vs.items))) }
 {
     match lex(alloc, text, 0) {
         Ok(tokens) => variables_of_tokens(alloc, text, tokens.as_slice()),
@@ -112,7 +112,7 @@ fn variables_of_tokens(
 ) -> Result<Option<Vec<VarText>>, NoMemory>
     ensures { IfOk result (λ found. MatchOption found
         ((ws : List WrittenVariable) → ¬ AreVariables text.now tokens.now ws)
-        (λ vs. AreVariables text.now tokens.now (variables_of vs.items))) }
+        (λ vs. AreVariables text.now tokens.now (written_variables_of vs.items))) }
 {
     let mut read = VariablesRead {
         variables: Vec::new(alloc),
@@ -192,7 +192,7 @@ fn name_of(alloc: Global, text: &[u8], token: Token) -> Result<Named, NoMemory>
 // The names that wait are variables of this sort.
 fn add_sort(alloc: Global, read: &mut VariablesRead, sort: &Named) -> Result<(), NoMemory>
     ensures { OnOk result (read_in read.new
-        ≡ with_sort (read_in read.old) (placed_name_of sort.now)) }
+        ≡ with_variable_sort (read_in read.old) (placed_name_of sort.now)) }
 {
     add_variables(alloc, read.names.as_slice(), sort, &mut read.variables)?;
     read.names = Vec::new(alloc);
@@ -207,7 +207,8 @@ fn add_variables(
     sort: &Named,
     variables: &mut Vec<VarText>,
 ) -> Result<(), NoMemory>
-    ensures { OnOk result (variables_of variables.new.items ≡ variables_of variables.old.items
+    ensures { OnOk result (written_variables_of variables.new.items
+        ≡ written_variables_of variables.old.items
         ++ variables_of_sort (map placed_name_of names.now) (placed_name_of sort.now)) }
 {
     for number in 0..names.len() {
@@ -227,10 +228,10 @@ fn add_variables(
 fn numbered(known: &Known, written: &[VarText]) -> Result<Option<Vec<Variable>>, NoMemory>
     requires { HasKnownSignature known.now }
     ensures { IfOk result (λ found. MatchOption found
-        ((vs : List PlainVariable) → HaveOwnNames (variables_of written.now)
-        → ¬ AreNumbered (known_signature known.now) (variables_of written.now) vs)
-        (λ vs. HaveOwnNames (variables_of written.now)
-        × AreNumbered (known_signature known.now) (variables_of written.now)
+        ((vs : List PlainVariable) → HaveOwnNames (written_variables_of written.now)
+        → ¬ AreNumbered (known_signature known.now) (written_variables_of written.now) vs)
+        (λ vs. HaveOwnNames (written_variables_of written.now)
+        × AreNumbered (known_signature known.now) (written_variables_of written.now)
         (map variable_of vs.items))) }
 {
     let mut made = Vec::new(known.alloc);
@@ -271,7 +272,7 @@ fn numbered_variable(
 // Whether one of the variables before this one has its name.
 fn has_earlier(written: &[VarText], number: usize) -> bool
     requires { number < length written.now }
-    ensures { IsTrue result ↔ HasEarlier (variables_of written.now) number }
+    ensures { IsTrue result ↔ HasEarlier (written_variables_of written.now) number }
 {
     for earlier in 0..number {
         if written[earlier].name.same(&written[number].name) {

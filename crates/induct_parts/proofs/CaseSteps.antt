@@ -2,12 +2,12 @@
 use Rattle.std.proofs.Common.{◌≡◌, ℕ, List, [], ◌∷◌, ◌++◌, length, map, refl, ap, sym, ◌∙◌, subst}
 use Rattle.std.specs.Prelude.{Some, slice_get}
 use Rattle.std.proofs.lemmas.Option.{same_Some}
-use Rattle.lotos_base.proofs.ExampleHelpers.{Each, each_member}
 use Rattle.lotos_base.specs.Equation.{Data}
 use Rattle.lotos_base.specs.Signature.{Signature, IsOperation}
 use Rattle.lotos_base.specs.Substitution.{substituted}
 use Rattle.lotos_base.specs.Term.{Term}
 use Rattle.lotos_base.proofs.Members.{at_map}
+use Rattle.lotos_base.proofs.Each.{Each, each_member}
 use Rattle.sort_terms.specs.ProfiledTerm.{ProfiledTerm, bare, IsOf}
 use Rattle.sort_terms.specs.SortedView.{term_in}
 use Rattle.sort_terms.specs.declared.sorted.Sorted.{Sorted}
@@ -21,7 +21,7 @@ use Rattle.certificate_theory.specs.Uses.{IsUsed}
 use Rattle.certificate_theory.proofs.CaseLemmas.{IsFineHypothesis, IsFineCase, case_fine}
 use Rattle.certificate_theory.proofs.LemmasHold.{first_fine}
 use Rattle.certificate_theory.proofs.UseSound.{IsSortedStatement, used_fine}
-use Rattle.induct_parts.specs.StatementView.{statement_of, profiles_in, IsStatementOf}
+use Rattle.induct_parts.specs.StatementView.{statement_of, profiled_sides_of, IsStatementOf}
 use Rattle.induct_parts.specs.CertificateView.{lemma_in, lemmas_in}
 use Rattle.induct_parts.specs.SettingView.{setting_signature, theory_in, IsSet, IsKnownLemma, proving_in, AreKnownBefore}
 use Rattle.induct_parts.specs.CaseView.{case_in, IsKnownCase}
@@ -133,7 +133,7 @@ used_is_known setting data_ canon proving point part use_ result set before know
 
 -- ---- copies of statements are of the signature, as they were
 
-pub copy_over : (signature : Signature) (s t : CodeStatement) → profiles_in s ≡ profiles_in t → IsStatementOf signature t
+pub copy_over : (signature : Signature) (s t : CodeStatement) → profiled_sides_of s ≡ profiled_sides_of t → IsStatementOf signature t
     → IsStatementOf signature s
 copy_over signature s t e over = record {
   left = subst (IsOf signature) (sym (ap (λ (sides : ProfiledTerm × ProfiledTerm). sides.0) e)) over.left;
@@ -141,30 +141,31 @@ copy_over signature s t e over = record {
 }
 
 pub copies_over : (signature : Signature) (ss ts : List CodeStatement)
-    → map profiles_in ss ≡ map profiles_in ts → Each (IsStatementOf signature) ts → Each (IsStatementOf signature) ss
+    → map profiled_sides_of ss ≡ map profiled_sides_of ts → Each (IsStatementOf signature) ts → Each (IsStatementOf signature) ss
 copies_over signature [] [] e over = tt
 copies_over signature [] (t ∷ ts) e over = tt
 copies_over signature (s ∷ ss) [] e over = absurd (cc e)
 copies_over signature (s ∷ ss) (t ∷ ts) e over =
-    let first : profiles_in s ≡ profiles_in t = cc e in
-    let rest : map profiles_in ss ≡ map profiles_in ts = cc e in
+    let first : profiled_sides_of s ≡ profiled_sides_of t = cc e in
+    let rest : map profiled_sides_of ss ≡ map profiled_sides_of ts = cc e in
     (copy_over signature s t first over.0, copies_over signature ss ts rest over.1)
 
-pub copies_same : (ss ts : List CodeStatement) → map profiles_in ss ≡ map profiles_in ts → map statement_of ss ≡ map statement_of ts
+pub copies_same : (ss ts : List CodeStatement) → map profiled_sides_of ss ≡ map profiled_sides_of ts
+    → map statement_of ss ≡ map statement_of ts
 copies_same [] [] e = refl
 copies_same [] (t ∷ ts) e = absurd (cc e)
 copies_same (s ∷ ss) [] e = absurd (cc e)
 copies_same (s ∷ ss) (t ∷ ts) e =
-    let first : profiles_in s ≡ profiles_in t = cc e in
-    let rest : map profiles_in ss ≡ map profiles_in ts = cc e in
+    let first : profiled_sides_of s ≡ profiled_sides_of t = cc e in
+    let rest : map profiled_sides_of ss ≡ map profiled_sides_of ts = cc e in
     λ i. record { left = bare ((first i).0); right = bare ((first i).1) } ∷ copies_same ss ts rest i
 
-pub copy_same : (s t : CodeStatement) → profiles_in s ≡ profiles_in t → statement_of s ≡ statement_of t
+pub copy_same : (s t : CodeStatement) → profiled_sides_of s ≡ profiled_sides_of t → statement_of s ≡ statement_of t
 copy_same s t e = λ i. record { left = bare ((e i).0); right = bare ((e i).1) }
 
 -- the case with another goal
 pub used_is : (theory : Theory) (point part : Case) (result : Statement) → part.sorts.items ≡ point.sorts.items
-    → part.gone.items ≡ point.gone.items → map profiles_in part.hypotheses.items ≡ map profiles_in point.hypotheses.items
+    → part.gone.items ≡ point.gone.items → map profiled_sides_of part.hypotheses.items ≡ map profiled_sides_of point.hypotheses.items
     → statement_of part.goal ≡ in_both theory.canon result → case_in part ≡ with_goal theory (case_in point) result
 used_is theory point part result sorts gone hypotheses goal =
     same_case (case_in part) (with_goal theory (case_in point) result) sorts gone

@@ -1,7 +1,7 @@
 -- From covers, trees and lemmas that were looked at to the whole certificate.
 use Rattle.std.proofs.Common.{◌≡◌, ℕ, List, [], sym, subst}
 use Rattle.std.specs.Prelude.{Some, slice_get}
-use Rattle.lotos_base.proofs.ExampleHelpers.{each_member}
+use Rattle.lotos_base.proofs.Each.{each_member}
 use Rattle.lotos_base.proofs.Members.{from_map}
 use Rattle.lotos_base.specs.Canon.{IsCanon}
 use Rattle.lotos_base.specs.Equation.{Data}

@@ -4,7 +4,6 @@ use Rattle.std.proofs.lemmas.List.{length-map, take_more}
 use Rattle.std.specs.Prelude.{◌⊎◌, ◌↔◌, Some, slice_get, IsTrue}
 use Rattle.std.proofs.lemmas.Bool.Decides.{Decides-eqb}
 use Rattle.std.proofs.lemmas.Option.{same_Some, slice_get_within, slice_get-get_or}
-use Rattle.lotos_base.proofs.Options.{none_and_some}
 use Rattle.lotos_base.specs.Signature.{Operation}
 use Rattle.lotos_base.specs.Substitution.{is_listed}
 use Rattle.path_order.proofs.ItemLemmas.{operation_at}
@@ -12,8 +11,7 @@ use Rattle.sort_terms.specs.Operations.{operation_of}
 use Rattle.sort_terms.specs.SignatureView.{signature_of}
 use Rattle.sort_terms.specs.declared.operations.Op.{Op}
 use Rattle.sort_terms.specs.declared.signatures.Signature.{Signature}
-use Rattle.certificate_theory.specs.InductionCertificate.{Cover}
-use Rattle.certificate_theory.specs.Covers.{IsListedIn, cover_of, HasResult, IsRightCover}
+use Rattle.certificate_theory.specs.Covers.{IsListedIn, HasResult}
 use Rattle.certificate_theory.proofs.Each.{from_join}
 use Rattle.certificate_theory.proofs.TestedCertificates.{AllOnce, among_member, member_among}
 
@@ -130,10 +128,3 @@ once_more xs n within none once i j f at there = go (part i at) (part j there)
 
 pub once_all : (xs : List ℕ) (n : ℕ) → length xs ≤ n → AllOnce (take n xs) → AllOnce xs
 once_all xs n past once = subst AllOnce (take_all n xs past) once
-
--- ---- a cover behind others
-
-pub covered_already : (signature : Signature) (earlier : List Cover) (cover : Cover) (operations : List ℕ)
-    → Some operations ≡ cover_of earlier cover.sort → ¬ IsRightCover (signature_of signature) earlier cover
-covered_already signature earlier cover operations found right =
-    none_and_some (cover_of earlier cover.sort) operations right.only_one (sym found)

@@ -20,7 +20,7 @@ use Rattle.certificate_theory.specs.InductionCertificate.{Statement as PlainStat
 use Rattle.certificate_theory.specs.Patterns.{put_for, operation_on}
 use Rattle.certificate_theory.specs.Requirements.{OccursInSide}
 use Rattle.certificate_theory.specs.Splits.{in_both, hypotheses_for, hypotheses_behind}
-use Rattle.induct_parts.specs.StatementView.{statement_of, profiles_in}
+use Rattle.induct_parts.specs.StatementView.{statement_of, profiled_sides_of}
 use Rattle.induct_parts.specs.SettingView.{setting_signature, proving_in}
 use Rattle.induct_parts.specs.CaseView.{case_in, IsKnownCase}
 use Rattle.induct_parts.specs.PutView.{IsPut, numbered_in}
@@ -59,7 +59,7 @@ put_variable n s m t goal made is e =
 -- ---- those of a free variable
 
 pub hypotheses_begin : (goal : PlainStatement) (n s next : ℕ) (arguments : List ℕ) (made old : List Statement)
-    → map profiles_in made ≡ map profiles_in old
+    → map profiled_sides_of made ≡ map profiled_sides_of old
     → IsMadeSoFar (hypotheses_make goal n s next) arguments (map statement_of old ++ hypotheses_for goal n s next arguments) 0
     (map statement_of made)
 hypotheses_begin goal n s next arguments made old e =
@@ -111,7 +111,7 @@ changed_end f hypotheses k made whole past so_far =
 
 -- ---- what is put in
 
-module _ (setting : Setting) (proving : Proving) (point : Case) (put : Put) (is : IsPut setting point put) where
+module _ (setting : Setting) (point : Case) (put : Put) (is : IsPut setting point put) where
   pub put_sort : put.term.now.sort ≡ put.op.now.result
   put_sort = operation_sort put.operation (length point.sorts.items) (operation_of put.op.now) put.term.now is.term
 
@@ -128,32 +128,32 @@ module _ (setting : Setting) (proving : Proving) (point : Case) (put : Put) (is 
       setting.signature.now.well_formed.results put.operation (operation_of put.op.now) is.is_operation
 
   -- in the goal and in the hypotheses the variable has the sort of the operation's result
-  pub put_in_goal : IsKnownCase (setting_signature setting) proving.free point → (s : ℕ)
+  pub put_in_goal : (free : ℕ) → IsKnownCase (setting_signature setting) free point → (s : ℕ)
       → OccursInSide (statement_of point.goal) put.variable s → s ≡ put.op.now.result
-  put_in_goal known s o =
-      goal_sort (setting_signature setting) proving.free point put.variable put.op.now.result known is.scope s o
+  put_in_goal free known s o =
+      goal_sort (setting_signature setting) free point put.variable put.op.now.result known is.scope s o
 
-  pub put_in_hypothesis : IsKnownCase (setting_signature setting) proving.free point → (k : ℕ) (h : Statement)
+  pub put_in_hypothesis : (free : ℕ) → IsKnownCase (setting_signature setting) free point → (k : ℕ) (h : Statement)
       → k < length point.hypotheses.items → h ≡ get_or point.hypotheses.items k h → (s : ℕ)
       → OccursInSide (statement_of h) put.variable s → s ≡ put.term.now.sort
-  put_in_hypothesis known k h within at s o =
-      hypothesis_sort (setting_signature setting) proving.free point k h put.variable put.op.now.result known
+  put_in_hypothesis free known k h within at s o =
+      hypothesis_sort (setting_signature setting) free point k h put.variable put.op.now.result known
       (slice_get_read point.hypotheses.items (length point.hypotheses.items) k h refl within at) is.scope s o
       ∙ sym put_sort
 
   -- the hypotheses behind a split
-  pub free_behind : (made : List PlainStatement) → put.variable < proving.free
+  pub free_behind : (proving : Proving) (made : List PlainStatement) → put.variable < proving.free
       → made ≡ map statement_of point.hypotheses.items
       ++ hypotheses_for (statement_of point.goal) put.variable put.op.now.result (length point.sorts.items) put.op.now.arguments.items
       → made ≡ hypotheses_behind (proving_in proving) (case_in point) put.variable put.op.now.result (numbered_in put)
-  free_behind made less e =
+  free_behind proving made less e =
       e ∙ sym (behind_free (proving_in proving) (case_in point) put.variable put.op.now.result (numbered_in put) less)
 
-  pub fixed_behind : (made : List PlainStatement) → proving.free ≤ put.variable
+  pub fixed_behind : (proving : Proving) (made : List PlainStatement) → proving.free ≤ put.variable
       → made ≡ map (in_both (substituted (put_for put.variable put.op.now.result (term_in put.term.now))))
       (map statement_of point.hypotheses.items)
       → made ≡ hypotheses_behind (proving_in proving) (case_in point) put.variable put.op.now.result (numbered_in put)
-  fixed_behind made past e =
+  fixed_behind proving made past e =
       e ∙ (ap (λ (t : Term). map (in_both (substituted (put_for put.variable put.op.now.result t)))
       (map statement_of point.hypotheses.items))
       put_term

@@ -1,12 +1,12 @@
 -- Operations that lack a tree: what the tests and the loops over covers and operations mean.
-use Rattle.std.proofs.Common.{◌≡◌, ◌<◌, ◌≤◌, ℕ, ◌+◌, List, Bool, true, false, not, nat_lt, length, refl, sym, ◌∙◌, subst, inl, inr, arith, ltb-true, ltb-false}
-use Rattle.std.specs.Prelude.{◌⊎◌, ◌↔◌, Some, slice_get, IsTrue}
+use Rattle.std.proofs.Common.{◌≡◌, ◌<◌, ◌≤◌, ℕ, ◌+◌, List, Bool, true, false, not, nat_lt, length, refl, sym, ◌∙◌, subst, arith, ltb-true, ltb-false}
+use Rattle.std.specs.Prelude.{◌↔◌, Some, slice_get, IsTrue}
 use Rattle.std.proofs.lemmas.Option.{same_Some, slice_get_within}
 use Rattle.lotos_base.specs.Signature.{Signature}
 use Rattle.lotos_base.specs.Substitution.{is_listed}
 use Rattle.certificate_theory.specs.InductionCertificate.{Cover, PatternTree}
-use Rattle.certificate_theory.specs.Covers.{IsListedIn, HasResult}
-use Rattle.certificate_theory.specs.Certified.{with_trees, AreComplete, LacksTree, IsFirstLack}
+use Rattle.certificate_theory.specs.Covers.{HasResult}
+use Rattle.certificate_theory.specs.Certified.{with_trees, LacksTree, IsFirstLack}
 
 -- ---- one operation
 
@@ -49,20 +49,6 @@ lacks_none signature trees cover n past so_far f lack =
     so_far f (omega (arith, within, past)) lack
 
 -- ---- all covers
-
-pub complete : (signature : Signature) (covers : List Cover) (trees : List PatternTree)
-    → ((i g : ℕ) (cover : Cover) → slice_get covers i ≡ Some cover → ¬ LacksTree signature trees cover g)
-    → AreComplete signature covers trees
-complete signature covers trees none i f cover operation at is result =
-    go (is_listed cover.operations f) refl (is_listed (with_trees trees) f) refl
-  where
-    go : (b : Bool) → is_listed cover.operations f ≡ b → (d : Bool) → is_listed (with_trees trees) f ≡ d
-        → IsListedIn cover.operations f ⊎ IsListedIn (with_trees trees) f
-    go true e d u = inl e
-    go false e true u = inr u
-    go false e false u =
-        absurd (none i f cover at
-        (record { operation = operation; is_operation = is; result = result; not_covered = e; no_tree = u }))
 
 pub covers_more : (signature : Signature) (covers : List Cover) (trees : List PatternTree) (n : ℕ) (cover : Cover)
     → slice_get covers n ≡ Some cover → ((f : ℕ) → ¬ LacksTree signature trees cover f)

@@ -1,22 +1,21 @@
 -- One line more, and one thing more: what is kept by loops over the lines of a tree or a proof, and over covers, trees and lemmas.
 use Rattle.std.proofs.Common.{◌≡◌, ◌<◌, ◌≤◌, ℕ, zero, suc, ◌+◌, List, [], ◌∷◌, ◌++◌, Bool, true, false, nat_eq, length, map, take, drop, get_or, reverse, refl, ap, sym, ◌∙◌, subst, arith}
 use Rattle.std.proofs.lemmas.Bool.Decides.{Decides-eqb}
-use Rattle.std.proofs.lemmas.List.{map-append, reverse-append, length-reverse, nil_from_length, take_more}
+use Rattle.std.proofs.lemmas.List.{map-append, reverse-append, length-reverse, take_more}
 use Rattle.std.proofs.Math.ListN.{drop_of_length-le}
 use Rattle.lotos_base.proofs.Pieces.{next_member}
-use Rattle.lotos_base.proofs.ExampleHelpers.{Each}
+use Rattle.lotos_base.proofs.Each.{Each, each_join}
 use Rattle.certificate_theory.specs.Faults.{InductionFault, bad_line}
 use Rattle.certificate_theory.specs.Lines.{DealsWith, nothing_left, LinesReach, no_line, line_first, FailsToDeal, line_missing, line_surplus, line_wrong, AreRightBehind, no_more, right_then, FirstIsWrong, wrong_here, wrong_later}
-use Rattle.certificate_theory.proofs.Each.{each_join}
 use Rattle.certificate_theory.proofs.LineLemmas.{reach_then_deal, reach_then_fail}
-use Rattle.induct_parts.specs.FaultView.{HoldsOfFault, FromLine}
+use Rattle.induct_parts.specs.FaultView.{HoldsOfLineFault, FromLine}
 use Rattle.induct_parts.specs.declared.line_fault.LineFault.{LineFault}
 use Rattle.induct_parts.specs.declared.line_fault.LineFault.TheVariants.{BadLine, NoVariable, NoCover, NoTree, NotReducible, BadUse, NotSame, NoMemory}
 
 -- ---- faults
 
 pub fault_more : (P Q : InductionFault → Type 0) → ((fault : InductionFault) → P fault → Q fault) → (fault : LineFault)
-    → HoldsOfFault P fault → HoldsOfFault Q fault
+    → HoldsOfLineFault P fault → HoldsOfLineFault Q fault
 fault_more P Q more BadLine h = more _ h
 fault_more P Q more NoVariable h = more _ h
 fault_more P Q more NoCover h = more _ h
@@ -25,10 +24,6 @@ fault_more P Q more NotReducible h = more _ h
 fault_more P Q more BadUse h = more _ h
 fault_more P Q more (NotSame statement) h = more _ h
 fault_more P Q more NoMemory h = tt
-
--- want of memory says nothing
-pub memory_holds : (P : InductionFault → Type 0) (fault : LineFault) → fault ≡ NoMemory → HoldsOfFault P fault
-memory_holds P fault e = subst (HoldsOfFault P) (sym e) tt
 
 -- ---- stacks
 
@@ -51,8 +46,8 @@ module _ {A X L : Type 0} (ComesTo : X → L → List X → Type 0) (IsWrong : X
       (line_first comes no_line))
 
   pub next_wrong : (old popped : List A) (x : A) (line : L) (fault : LineFault) → old ≡ popped ++ x ∷ []
-      → HoldsOfFault (IsWrong (view x) line) fault → (rest : List L)
-      → HoldsOfFault (FailsToDeal ComesTo IsWrong bad_line (map view (reverse old)) (line ∷ rest) 0) fault
+      → HoldsOfLineFault (IsWrong (view x) line) fault → (rest : List L)
+      → HoldsOfLineFault (FailsToDeal ComesTo IsWrong bad_line (map view (reverse old)) (line ∷ rest) 0) fault
   next_wrong old popped x line fault top wrong rest =
       fault_more (IsWrong (view x) line) (FailsToDeal ComesTo IsWrong bad_line (map view (reverse old)) (line ∷ rest) 0)
       (λ told h. subst (λ (xs : List X). FailsToDeal ComesTo IsWrong bad_line xs (line ∷ rest) 0 told)
@@ -117,9 +112,9 @@ module _ {C X L : Type 0} (ComesTo : X → L → List X → Type 0) (IsWrong : X
 
   -- a wrong line
   pub deal_wrong : (n begin line : ℕ) (left : List X) (c : C) (fault : LineFault) → n < length all → c ≡ get_or all n c
-      → ((rest : List L) → HoldsOfFault (FailsToDeal ComesTo IsWrong bad_line left (view c ∷ rest) 0) fault)
+      → ((rest : List L) → HoldsOfLineFault (FailsToDeal ComesTo IsWrong bad_line left (view c ∷ rest) 0) fault)
       → line ≡ begin + n → DealSoFar ComesTo IsWrong view first all n left
-      → HoldsOfFault (FromLine begin (FailsToDeal ComesTo IsWrong bad_line first (map view all)) line) fault
+      → HoldsOfLineFault (FromLine begin (FailsToDeal ComesTo IsWrong bad_line first (map view all)) line) fault
   deal_wrong n begin line left c fault within is wrong at so_far =
       fault_more (FailsToDeal ComesTo IsWrong bad_line left (view c ∷ map view (drop (n + 1) all)) 0)
       (FromLine begin (FailsToDeal ComesTo IsWrong bad_line first (map view all)) line)
@@ -160,10 +155,6 @@ some_left {A = A} {X = X} view left more = go (reverse left) (subst (λ (k : ℕ
     go : (xs : List A) → 0 < length xs → (x : X) × (rest : List X) × (map view xs ≡ x ∷ rest)
     go [] less = absurd (omega (arith, less))
     go (y ∷ ys) less = (view y, map view ys, refl)
-
--- what the test for an empty stack tells
-pub stack_none : {A : Type 0} (left : List A) (n : ℕ) (b : Bool) → n ≡ length left → b ≡ nat_eq n 0 → b ≡ true → left ≡ []
-stack_none left n b same test is = nil_from_length left (sym same ∙ (Decides-eqb n 0).0 (sym test ∙ is))
 
 pub stack_some : {A : Type 0} (left : List A) (n : ℕ) (b : Bool) → n ≡ length left → b ≡ nat_eq n 0 → b ≡ false → 0 < length left
 stack_some left n b same test not_so = go (length left) refl
@@ -219,9 +210,9 @@ module _ {C X : Type 0} (IsRight : List X → X → Type 0) (IsWrong : List X �
       (sym (drop_of_length-le all past)) no_more)
 
   pub thing_wrong : (n line at : ℕ) (c : C) (fault : LineFault) → n < length all → c ≡ get_or all n c
-      → HoldsOfFault (FromLine line (IsWrong (map view (take n all)) (view c)) at) fault
+      → HoldsOfLineFault (FromLine line (IsWrong (map view (take n all)) (view c)) at) fault
       → RightSoFar IsRight IsWrong length_of view begin all n line
-      → HoldsOfFault (FirstIsWrong IsRight IsWrong length_of begin [] (map view all) at) fault
+      → HoldsOfLineFault (FirstIsWrong IsRight IsWrong length_of begin [] (map view all) at) fault
   thing_wrong n line at c fault within is wrong so_far =
       fault_more (FromLine line (IsWrong (map view (take n all)) (view c)) at)
       (FirstIsWrong IsRight IsWrong length_of begin [] (map view all) at)

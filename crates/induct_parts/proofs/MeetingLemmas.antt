@@ -4,7 +4,7 @@ use Rattle.std.specs.Prelude.{Option, Some, None, slice_get, if◌then◌else◌
 use Rattle.std.specs.Option.{option_and_then}
 use Rattle.std.proofs.lemmas.Option.{same_Some, none-some, slice_get_within}
 use Rattle.std.proofs.lemmas.List.{length-map}
-use Rattle.std.proofs.lemmas.Bool.{cases_lt}
+use Rattle.std.proofs.lemmas.Bool.{cases_lt, not-true, not_from_false}
 use Rattle.std.proofs.lemmas.Bool.Decides.{Decides-eqb}
 use Rattle.lotos_base.specs.Signature.{Operation, prefix_form}
 use Rattle.lotos_base.specs.Sorting.{Occurs}
@@ -31,7 +31,7 @@ use Rattle.sort_terms.specs.declared.equations.Equation.{Equation}
 use Rattle.induct_parts.specs.CertificateView.{lemma_in, lemmas_in}
 use Rattle.induct_parts.specs.SettingView.{IsKnownLemma}
 use Rattle.induct_parts.specs.declared.certificates.StatedLemma.{StatedLemma}
-use Rattle.induct_parts.specs.Meeting.{is_sort, is_variable, is_seen, is_renamed, seen_with, are_renamed}
+use Rattle.induct_parts.specs.Meeting.{is_listed_sort, is_variable, is_seen, is_renamed, seen_with, are_renamed}
 
 -- ---- Tests
 
@@ -43,19 +43,11 @@ passes : (b c : Bool) → b ≡ true → c ≡ true → (if b then c else false)
 passes true c e f = f
 passes false c e f = absurd (cc e)
 
-not_true : (b : Bool) → not b ≡ true → b ≡ false
-not_true true e = absurd (cc e)
-not_true false e = refl
-
-is_not : (b : Bool) → b ≡ false → not b ≡ true
-is_not true e = absurd (cc e)
-is_not false e = refl
-
-sort_is : (o : Option ℕ) (s : ℕ) → is_sort o s ≡ true → o ≡ Some s
+sort_is : (o : Option ℕ) (s : ℕ) → is_listed_sort o s ≡ true → o ≡ Some s
 sort_is None s e = absurd (cc e)
 sort_is (Some r) s e = ap (λ (k : ℕ). Some k) ((Decides-eqb r s).0 e)
 
-is_sorted : (o : Option ℕ) (s : ℕ) → o ≡ Some s → is_sort o s ≡ true
+is_sorted : (o : Option ℕ) (s : ℕ) → o ≡ Some s → is_listed_sort o s ≡ true
 is_sorted None s e = absurd (none-some s e)
 is_sorted (Some r) s e = (Decides-eqb r s).1 (same_Some r s e)
 
@@ -125,16 +117,16 @@ renamed_listed : (sorts : List ℕ) (seen : List (ℕ × ℕ)) (n : ℕ) (u : Pr
     → (m : ℕ) × (s : ℕ) × (slice_get sorts n ≡ Some s) × (u ≡ profiled_variable m s) × (is_seen seen m s ≡ false)
     × (seen_with seen u ≡ seen ++ (m, s) ∷ [])
 renamed_listed sorts seen n (profiled_variable m s) e =
-    let both = passed (is_sort (slice_get sorts n) s) (not (is_seen seen m s)) e in
-    (m, s, sort_is (slice_get sorts n) s both.0, refl, not_true (is_seen seen m s) both.1, refl)
+    let both = passed (is_listed_sort (slice_get sorts n) s) (not (is_seen seen m s)) e in
+    (m, s, sort_is (slice_get sorts n) s both.0, refl, not-true (is_seen seen m s) both.1, refl)
 renamed_listed sorts seen n (profiled_node f operation ts) e = absurd (cc e)
 
 listed_renamed : (sorts : List ℕ) (seen : List (ℕ × ℕ)) (n : ℕ) (u : ProfiledTerm) (m s : ℕ) → u ≡ profiled_variable m s
     → slice_get sorts n ≡ Some s → is_seen seen m s ≡ false → is_renamed sorts seen (n, u) ≡ true
 listed_renamed sorts seen n u m s same listed fresh =
     subst (λ (v : ProfiledTerm). is_renamed sorts seen (n, v) ≡ true) (sym same)
-    (passes (is_sort (slice_get sorts n) s) (not (is_seen seen m s)) (is_sorted (slice_get sorts n) s listed)
-    (is_not (is_seen seen m s) fresh))
+    (passes (is_listed_sort (slice_get sorts n) s) (not (is_seen seen m s)) (is_sorted (slice_get sorts n) s listed)
+    (not_from_false (is_seen seen m s) fresh))
 
 pair_parts : (pair : ℕ × ProfiledTerm) (n : ℕ) (u : ProfiledTerm) → Some pair ≡ Some (n, u) → (pair.0 ≡ n) × (pair.1 ≡ u)
 pair_parts pair n u e =

@@ -4,7 +4,7 @@ use Rattle.lotos_base.specs.Equation.{Data}
 use Rattle.lotos_base.specs.Signature.{Operation, IsOperation}
 use Rattle.lotos_base.specs.Substitution.{substituted}
 use Rattle.lotos_base.specs.Term.{Term}
-use Rattle.lotos_base.proofs.ExampleHelpers.{Each}
+use Rattle.lotos_base.proofs.Each.{Each}
 use Rattle.sort_terms.specs.Operations.{operation_of}
 use Rattle.sort_terms.specs.ProfiledTerm.{profiled_node, IsOf}
 use Rattle.sort_terms.specs.SortedView.{profiled_in, term_in}

@@ -10,7 +10,7 @@ use Rattle.certificate_theory.specs.Patterns.{Pattern, PatternComesTo, IsWrongAt
 use Rattle.certificate_theory.specs.Proofs.{CaseComesTo, IsWrongAtCase}
 use Rattle.certificate_theory.specs.Splits.{Theory, Case, Proving, first_case}
 use Rattle.certificate_theory.specs.Certified.{with_trees, proving_of, IsRightTree, IsWrongTree, IsRightLemma, IsWrongLemma}
-use Rattle.induct_parts.specs.FaultView.{HoldsOfFault, FromLine}
+use Rattle.induct_parts.specs.FaultView.{HoldsOfLineFault, FromLine}
 use Rattle.induct_parts.specs.declared.line_fault.LineFault.{LineFault}
 use Rattle.induct_parts.specs.declared.line_fault.LineFault.TheVariants.{BadLine}
 use Rattle.induct_parts.proofs.LineSteps.{fault_more}
@@ -36,9 +36,9 @@ pub tree_wrong : (theory : Theory) (covers : List Cover) (earlier : List Pattern
     (lines : List TreeLine) (o : Operation) (begin line : ℕ) (fault : LineFault)
     → IsFalse (is_listed (with_trees earlier) tree.operation) → IsFirstPattern theory tree.operation first
     → IsOperation theory.data_.signature tree.operation o → lines ≡ tree.lines
-    → HoldsOfFault (FromLine (begin + 1) (FailsToDeal (PatternComesTo theory.data_.signature theory.rules covers)
+    → HoldsOfLineFault (FromLine (begin + 1) (FailsToDeal (PatternComesTo theory.data_.signature theory.rules covers)
     (IsWrongAtPattern theory.rules covers) bad_line (first ∷ []) lines) line) fault
-    → HoldsOfFault (FromLine begin (IsWrongTree theory covers earlier tree) line) fault
+    → HoldsOfLineFault (FromLine begin (IsWrongTree theory covers earlier tree) line) fault
 tree_wrong theory covers earlier tree first lines o begin line fault none is at same wrong =
     fault_more
     (FromLine (begin + 1) (FailsToDeal (PatternComesTo theory.data_.signature theory.rules covers) (IsWrongAtPattern theory.rules covers)
@@ -67,7 +67,7 @@ tree_wrong theory covers earlier tree first lines o begin line fault none is at 
 -- a second tree of an operation is wrong at its first line
 pub second_tree : (theory : Theory) (covers : List Cover) (earlier : List PatternTree) (tree : PatternTree) (begin : ℕ)
     → is_listed (with_trees earlier) tree.operation ≡ true
-    → HoldsOfFault (FromLine begin (IsWrongTree theory covers earlier tree) begin) BadLine
+    → HoldsOfLineFault (FromLine begin (IsWrongTree theory covers earlier tree) begin) BadLine
 second_tree theory covers earlier tree begin listed =
     let here : begin ≡ begin + 0 = omega arith in (0, inl (listed, refl, refl), here)
 
@@ -84,9 +84,9 @@ lemma_right theory covers earlier lemma proving first lines is begins same deals
 pub lemma_wrong : (theory : Theory) (covers : List Cover) (earlier : List Lemma) (lemma : Lemma) (proving : Proving) (first : Case)
     (lines : List ProofLine) (begin line : ℕ) (fault : LineFault) → proving ≡ proving_of earlier lemma
     → first ≡ first_case theory lemma → lines ≡ lemma.lines
-    → HoldsOfFault (FromLine (begin + 3) (FailsToDeal (CaseComesTo theory covers proving) (IsWrongAtCase theory covers proving) bad_line
+    → HoldsOfLineFault (FromLine (begin + 3) (FailsToDeal (CaseComesTo theory covers proving) (IsWrongAtCase theory covers proving) bad_line
     (first ∷ []) lines) line) fault
-    → HoldsOfFault (FromLine begin (IsWrongLemma theory covers earlier lemma) line) fault
+    → HoldsOfLineFault (FromLine begin (IsWrongLemma theory covers earlier lemma) line) fault
 lemma_wrong theory covers earlier lemma proving first lines begin line fault is begins same wrong =
     fault_more
     (FromLine (begin + 3) (FailsToDeal (CaseComesTo theory covers proving) (IsWrongAtCase theory covers proving) bad_line (first ∷ [])

@@ -5,7 +5,7 @@ use Rattle.std.specs.declared.rc.Rc.{Rc}
 use Rattle.std.proofs.lemmas.Bool.Decides.{Decides-eqb}
 use Rattle.std.proofs.lemmas.List.{take_more}
 use Rattle.std.proofs.lemmas.Option.{slice_get_read}
-use Rattle.lotos_base.proofs.ExampleHelpers.{Each, each_member}
+use Rattle.lotos_base.proofs.Each.{Each, each_member, each_join}
 use Rattle.sort_terms.specs.Operations.{operation_of}
 use Rattle.sort_terms.specs.ProfiledTerm.{ProfiledTerms, profiled_variable, profiled_node}
 use Rattle.sort_terms.specs.TermView.{profiled_of}
@@ -13,7 +13,6 @@ use Rattle.sort_terms.specs.declared.operations.Op.{Op}
 use Rattle.sort_terms.specs.declared.terms.Term.{Term}
 use Rattle.sort_terms.specs.declared.terms.Term.TheVariants.{Var, Node}
 use Rattle.sort_terms.proofs.BuiltLists.{profiled_Node, profiled_Var}
-use Rattle.certificate_theory.proofs.Each.{each_join}
 use Rattle.certificate_theory.proofs.CertificateTests.{stands}
 use Rattle.certificate_theory.proofs.TestedLines.{stands_decided}
 use Rattle.certificate_theory.specs.InductionCertificate.{Source}

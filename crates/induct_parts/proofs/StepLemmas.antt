@@ -2,8 +2,7 @@
 use Rattle.std.proofs.Common.{◌≡◌, ◌<◌, ◌≤◌, ℕ, suc, ◌+◌, List, [], ◌∷◌, ◌++◌, Bool, true, false, nat_eq, length, map, drop, get_or, refl, ap, sym, ◌∙◌, arith, subst}
 use Rattle.std.specs.Prelude.{◌||◌, if◌then◌else◌}
 use Rattle.std.proofs.lemmas.List.{append_assoc, append-nil, map-append}
-use Rattle.lotos_base.proofs.ExampleHelpers.{Each}
-use Rattle.certificate_theory.proofs.Each.{each_join}
+use Rattle.lotos_base.proofs.Each.{Each, each_join}
 use Rattle.std.proofs.Math.ListN.{drop_of_length-le}
 use Rattle.lotos_base.specs.Signature.{Operation}
 use Rattle.lotos_base.specs.Substitution.{substituted, is_listed}
@@ -48,14 +47,6 @@ kept_unless false xs ys e = sym (append-nil xs)
 pub added_where : {A : Type 0} (b : Bool) (old ys new : List A) → b ≡ true → new ≡ old ++ ys → new ≡ old ++ (if b then ys else [])
 added_where true old ys new e added = added
 added_where false old ys new e added = absurd (cc e)
-
-pub kept_where : {A : Type 0} (b : Bool) (xs ys : List A) → b ≡ true → xs ≡ xs ++ (if b then [] else ys)
-kept_where true xs ys e = sym (append-nil xs)
-kept_where false xs ys e = absurd (cc e)
-
-pub added_unless : {A : Type 0} (b : Bool) (old ys new : List A) → b ≡ false → new ≡ old ++ ys → new ≡ old ++ (if b then [] else ys)
-added_unless true old ys new e added = absurd (cc e)
-added_unless false old ys new e added = added
 
 -- the views of what is pushed
 pub pushed : {A Y : Type 0} (view : A → Y) (old new : List A) (x : A) → new ≡ old ++ x ∷ [] → map view new ≡ map view old ++ view x ∷ []

@@ -2,7 +2,7 @@
 use Rattle.std.proofs.Common.{◌≡◌, ℕ, List, map, ap, sym, ◌∙◌, subst, inl, inr}
 use Rattle.std.specs.Prelude.{None, Some, slice_get}
 use Rattle.std.proofs.lemmas.Option.{same_Some}
-use Rattle.lotos_base.proofs.ExampleHelpers.{Each, each_member}
+use Rattle.lotos_base.proofs.Each.{Each, each_member}
 use Rattle.lotos_base.proofs.Members.{at_map, from_map, past_map}
 use Rattle.lotos_base.proofs.Options.{none_and_some}
 use Rattle.lotos_base.proofs.SortLemmas.{one_sort}
@@ -21,7 +21,7 @@ use Rattle.certificate_theory.specs.Uses.{IsOfSource, StandsForItself}
 use Rattle.certificate_theory.proofs.Each.{each_of}
 use Rattle.certificate_theory.proofs.CaseLemmas.{IsFineHypothesis}
 use Rattle.induct_parts.specs.StatementView.{statement_of, IsStatementOf}
-use Rattle.induct_parts.specs.CertificateView.{lemma_in, lemmas_in, source_of}
+use Rattle.induct_parts.specs.CertificateView.{lemma_in, lemmas_in, use_source_of}
 use Rattle.induct_parts.specs.SettingView.{setting_signature, IsKnownLemma, proving_in, AreKnownBefore}
 use Rattle.induct_parts.specs.CaseView.{case_in, IsKnownCase}
 use Rattle.induct_parts.specs.UseView.{IsKnownSource, StandsRight}
@@ -85,14 +85,14 @@ hypothesis_source setting proving point k h known at = record {
 
 -- past the end there is none
 pub no_lemma : (proving : Proving) (point : Case) (k : ℕ) (statement : PlainStatement) → slice_get proving.earlier.now k ≡ None
-    → ¬ IsOfSource (proving_in proving) (case_in point) (source_of (Lemma k)) statement
+    → ¬ IsOfSource (proving_in proving) (case_in point) (use_source_of (Lemma k)) statement
 no_lemma proving point k statement past there =
     none_and_some (slice_get (statements_of (lemmas_in proving.earlier.now)) k) statement
     (past_map (λ (one : PlainLemma). one.statement) (lemmas_in proving.earlier.now) k (past_map lemma_in proving.earlier.now k past))
     there
 
 pub no_hypothesis : (proving : Proving) (point : Case) (k : ℕ) (statement : PlainStatement) → slice_get point.hypotheses.items k ≡ None
-    → ¬ IsOfSource (proving_in proving) (case_in point) (source_of (Hypothesis k)) statement
+    → ¬ IsOfSource (proving_in proving) (case_in point) (use_source_of (Hypothesis k)) statement
 no_hypothesis proving point k statement past there =
     none_and_some (slice_get (map statement_of point.hypotheses.items) k) statement
     (past_map statement_of point.hypotheses.items k past) there
@@ -102,7 +102,7 @@ no_hypothesis proving point k statement past there =
 -- Each pair of a variable that stands for itself has it, as the plain definition says.
 abbrev pub PairsStand : Proving → Source → List (ℕ × Sorted) → Type 0
 PairsStand proving source pairs = (n : ℕ) (u : ProfiledTerm) → IsPair (profiled_pairs pairs) n u
-    → StandsForItself (proving_in proving) (source_of source) n → (s : ℕ) × (u ≡ profiled_variable n s)
+    → StandsForItself (proving_in proving) (use_source_of source) n → (s : ℕ) × (u ≡ profiled_variable n s)
 
 pub pairs_stand : (proving : Proving) (source : Source) (pairs : List (ℕ × Sorted)) → Each (StandsRight proving source) pairs
     → PairsStand proving source pairs
@@ -111,7 +111,7 @@ pairs_stand proving source pairs each n u (i, at) itself =
     let number : from.0.0 ≡ n = ap (λ (p : ℕ × ProfiledTerm). p.0) from.2 in
     let value : profiled_in from.0.1 ≡ u = ap (λ (p : ℕ × ProfiledTerm). p.1) from.2 in
     let has = each_member (StandsRight proving source) pairs i from.0 each from.1
-    (subst (StandsForItself (proving_in proving) (source_of source)) (sym number) itself) in
+    (subst (StandsForItself (proving_in proving) (use_source_of source)) (sym number) itself) in
     (has.0, sym value ∙ (has.1 ∙ ap (λ (m : ℕ). profiled_variable m has.0) number))
 
 pub each_stands : (proving : Proving) (source : Source) (pairs : List (ℕ × Sorted)) → PairsStand proving source pairs

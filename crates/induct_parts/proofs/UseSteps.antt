@@ -3,7 +3,7 @@ use Rattle.std.proofs.Common.{◌≡◌, ℕ, List, Bool, true, false, nat_eq, r
 use Rattle.std.specs.Option.{option_map}
 use Rattle.std.specs.Prelude.{◌⊎◌, ◌↔◌, Option, None, Some}
 use Rattle.std.proofs.lemmas.Bool.Decides.{Decides-eqb}
-use Rattle.lotos_base.proofs.ExampleHelpers.{Each}
+use Rattle.lotos_base.proofs.Each.{Each}
 use Rattle.lotos_base.proofs.Options.{none_and_some}
 use Rattle.lotos_base.specs.Equation.{Data}
 use Rattle.lotos_base.specs.Path.{subterm, put_at}
@@ -16,7 +16,7 @@ use Rattle.sort_terms.specs.SortedView.{profiled_in, term_in}
 use Rattle.sort_terms.specs.declared.sorted.Sorted.{Sorted}
 use Rattle.term_match.specs.Matched.{IsMatchedBy, HasMatch}
 use Rattle.term_match.specs.ProfiledInstance.{profiled_binding, profiled_instance}
-use Rattle.term_match.specs.ProfiledPath.{profiled_subterm, replaced, LeadsToSort}
+use Rattle.term_match.specs.ProfiledPath.{profiled_subterm, with_part_replaced, LeadsToSort}
 use Rattle.term_match.specs.SubstView.{profiled_pairs, substitution_of}
 use Rattle.term_match.specs.declared.substitutions.Subst.{Subst}
 use Rattle.term_match.proofs.InstanceLemmas.{instance_of}
@@ -26,8 +26,8 @@ use Rattle.certificate_theory.specs.Requirements.{OccursInSide}
 use Rattle.certificate_theory.specs.Uses.{taken_side, placed_side, side_at, with_side, StandsForItself, IsUsed}
 use Rattle.certificate_theory.proofs.CertificateTests.{each_variable}
 use Rattle.certificate_theory.proofs.TestedLines.{UseTells, tells}
-use Rattle.induct_parts.specs.StatementView.{statement_of, profiles_in, IsStatementOf, side_in, taken_in, placed_in, with_profiled_side}
-use Rattle.induct_parts.specs.CertificateView.{side_of, direction_of, source_of, use_of}
+use Rattle.induct_parts.specs.StatementView.{statement_of, profiled_sides_of, IsStatementOf, side_in, taken_in, placed_in, with_profiled_side}
+use Rattle.induct_parts.specs.CertificateView.{use_side_of, direction_of, use_source_of, use_of}
 use Rattle.induct_parts.specs.SettingView.{setting_signature, theory_in, proving_in}
 use Rattle.induct_parts.specs.CaseView.{case_in, IsKnownCase}
 use Rattle.induct_parts.specs.UseView.{IsKnownSource, StandsRight, closes, IsMatchOf}
@@ -55,7 +55,7 @@ places : (direction : Direction) (statement : Statement)
 places Forward statement = refl
 places Backward statement = refl
 
-goal_side : (side : Side) (statement : Statement) → side_at (side_of side) (statement_of statement) ≡ term_in (side_in side statement)
+goal_side : (side : Side) (statement : Statement) → side_at (use_side_of side) (statement_of statement) ≡ term_in (side_in side statement)
 goal_side Left statement = refl
 goal_side Right statement = refl
 
@@ -144,13 +144,13 @@ part_of_match setting proving point use_ statement found known source is =
 -- ---- the use that is made
 
 made_is : (side : Side) (after : Sorted) (made goal : Statement)
-    → profiles_in made ≡ with_profiled_side side (profiled_in after) (profiles_in goal)
-    → statement_of made ≡ with_side (side_of side) (term_in after) (statement_of goal)
+    → profiled_sides_of made ≡ with_profiled_side side (profiled_in after) (profiled_sides_of goal)
+    → statement_of made ≡ with_side (use_side_of side) (term_in after) (statement_of goal)
 made_is Left after made goal e = λ i. record { left = bare ((e i).0); right = bare ((e i).1) }
 made_is Right after made goal e = λ i. record { left = bare ((e i).0); right = bare ((e i).1) }
 
 made_over : (signature : Signature) (side : Side) (after : Sorted) (made goal : Statement)
-    → profiles_in made ≡ with_profiled_side side (profiled_in after) (profiles_in goal) → IsStatementOf signature goal
+    → profiled_sides_of made ≡ with_profiled_side side (profiled_in after) (profiled_sides_of goal) → IsStatementOf signature goal
     → IsOf signature (profiled_in after) → IsStatementOf signature made
 made_over signature Left after made goal e over h = record {
   left = subst (IsOf signature) (sym (ap (λ (sides : ProfiledTerm × ProfiledTerm). sides.0) e)) h;
@@ -190,7 +190,7 @@ pub replaced_used : (setting : Setting) (proving : Proving) (point : Case) (use_
     → placed ≡ placed_in use_.direction statement → side ≡ side_in use_.side point.goal → path ≡ use_.path.items
     → term_in new ≡ substituted (substitution_of found) (term_in placed)
     → put_at path (term_in new) (term_in side) ≡ Some (term_in after)
-    → profiles_in made ≡ with_profiled_side use_.side (profiled_in after) (profiles_in point.goal)
+    → profiled_sides_of made ≡ with_profiled_side use_.side (profiled_in after) (profiled_sides_of point.goal)
     → (data_ : Data) (canon : Term → Term)
     → IsUsed (theory_in setting data_ canon) (proving_in proving) (case_in point) (use_of use_) (statement_of made)
 replaced_used setting proving point use_ statement found placed side new after path made known source is places_ side_is path_is instance
@@ -202,18 +202,18 @@ replaced_used setting proving point use_ statement found placed side new after p
     (taken_in use_.direction statement) (placed_in use_.direction statement) is.part found.pairs.items (term_in after)
     (part_of_match setting proving point use_ statement found known source is) source.is_there (takes use_.direction statement)
     (places use_.direction statement) part_there (pairs_stand proving use_.source found.pairs.items is.stand)
-    ((closes_decided (proving_in proving) (source_of use_.source) (term_in (taken_in use_.direction statement))
+    ((closes_decided (proving_in proving) (use_source_of use_.source) (term_in (taken_in use_.direction statement))
     (term_in (placed_in use_.direction statement))).0 is.closed)
     put_there)
   where
-    part_there : subterm use_.path.items (side_at (side_of use_.side) (statement_of point.goal)) ≡ Some (bare is.part)
+    part_there : subterm use_.path.items (side_at (use_side_of use_.side) (statement_of point.goal)) ≡ Some (bare is.part)
     part_there =
         ap (subterm use_.path.items) (goal_side use_.side point.goal)
         ∙ (sym (subterm_bare use_.path.items (profiled_in (side_in use_.side point.goal)))
         ∙ ap (option_map bare) is.is_there)
 
     put_there : put_at use_.path.items (substituted (substitution_of found) (term_in (placed_in use_.direction statement)))
-        (side_at (side_of use_.side) (statement_of point.goal)) ≡ Some (term_in after)
+        (side_at (use_side_of use_.side) (statement_of point.goal)) ≡ Some (term_in after)
     put_there =
         sym (λ i. put_at (path_is i) ((instance ∙ ap (λ (t : Sorted). substituted (substitution_of found) (term_in t)) places_) i)
         (((ap (λ (t : Sorted). term_in t) side_is) ∙ sym (goal_side use_.side point.goal)) i))
@@ -225,8 +225,8 @@ pub replaced_over : (setting : Setting) (proving : Proving) (point : Case) (use_
     → placed ≡ placed_in use_.direction statement → side ≡ side_in use_.side point.goal → path ≡ use_.path.items
     → profiled_in new ≡ profiled_instance (profiled_binding (profiled_pairs found.pairs.items)) (profiled_in placed)
     → new.sort ≡ placed.sort
-    → Some (profiled_in after) ≡ replaced path (profiled_in new) (profiled_in side)
-    → profiles_in made ≡ with_profiled_side use_.side (profiled_in after) (profiles_in point.goal)
+    → Some (profiled_in after) ≡ with_part_replaced path (profiled_in new) (profiled_in side)
+    → profiled_sides_of made ≡ with_profiled_side use_.side (profiled_in after) (profiled_sides_of point.goal)
     → IsStatementOf (setting_signature setting) made
 replaced_over setting proving point use_ statement found placed side new after path made known source is places_ side_is path_is instance
     sorted put result =
@@ -259,7 +259,7 @@ pub no_part : (setting : Setting) (proving : Proving) (point : Case) (use_ : Use
     → (data_ : Data) (canon : Term → Term) (made : PlainStatement)
     → ¬ IsUsed (theory_in setting data_ canon) (proving_in proving) (case_in point) (use_of use_) made
 no_part setting proving point use_ side path side_is path_is none data_ canon made used =
-    none_and_some (subterm use_.path.items (side_at (side_of use_.side) (statement_of point.goal)))
+    none_and_some (subterm use_.path.items (side_at (use_side_of use_.side) (statement_of point.goal)))
     (substituted used.values (taken_side (direction_of use_.direction) used.statement))
     ((λ i. subterm (sym path_is i) ((goal_side use_.side point.goal ∙ sym (ap (λ (t : Sorted). term_in t) side_is)) i)) ∙ sym none)
     used.old
@@ -315,33 +315,33 @@ pub no_standing : (setting : Setting) (proving : Proving) (point : Case) (use_ :
 no_standing setting proving point use_ statement found part is source there never data_ canon made used =
     let told = part_told setting proving point use_ statement part source there data_ canon made used in
     never (each_stands proving use_.source found.pairs.items
-    (told_stand is (proving_in proving) (source_of use_.source) told.values told.fixed
+    (told_stand is (proving_in proving) (use_source_of use_.source) told.values told.fixed
     (subst (λ (t : Term). substituted told.values t ≡ bare part) (takes use_.direction statement) told.old)))
 
 pub not_closed : (setting : Setting) (proving : Proving) (point : Case) (use_ : Use) (statement : Statement) (part : ProfiledTerm)
     → IsKnownSource setting proving point use_.source statement
     → profiled_subterm use_.path.items (profiled_in (side_in use_.side point.goal)) ≡ Some part
-    → each_variable (closes (proving_in proving) (source_of use_.source) (term_in (taken_in use_.direction statement)))
+    → each_variable (closes (proving_in proving) (use_source_of use_.source) (term_in (taken_in use_.direction statement)))
     (term_in (placed_in use_.direction statement)) ≡ false
     → (data_ : Data) (canon : Term → Term) (made : PlainStatement)
     → ¬ IsUsed (theory_in setting data_ canon) (proving_in proving) (case_in point) (use_of use_) made
 not_closed setting proving point use_ statement part source there never data_ canon made used =
     let told = part_told setting proving point use_ statement part source there data_ canon made used in
-    let closed = (closes_decided (proving_in proving) (source_of use_.source) (term_in (taken_in use_.direction statement))
+    let closed = (closes_decided (proving_in proving) (use_source_of use_.source) (term_in (taken_in use_.direction statement))
     (term_in (placed_in use_.direction statement))).1
     (λ n s o. closes_there told.closed n s (subst (Occurs n s) (sym (places use_.direction statement)) o)) in
     let clash : true ≡ false = sym closed ∙ never in
     cc clash
   where
     closes_there : ((n s : ℕ) → Occurs n s (placed_side (direction_of use_.direction) (statement_of statement))
-        → StandsForItself (proving_in proving) (source_of use_.source) n
+        → StandsForItself (proving_in proving) (use_source_of use_.source) n
         ⊎ Occurs n s (taken_side (direction_of use_.direction) (statement_of statement)))
         → (n s : ℕ) → Occurs n s (placed_side (direction_of use_.direction) (statement_of statement))
-        → StandsForItself (proving_in proving) (source_of use_.source) n ⊎ Occurs n s (term_in (taken_in use_.direction statement))
+        → StandsForItself (proving_in proving) (use_source_of use_.source) n ⊎ Occurs n s (term_in (taken_in use_.direction statement))
     closes_there told n s o = go (told n s o)
       where
-        go : StandsForItself (proving_in proving) (source_of use_.source) n
+        go : StandsForItself (proving_in proving) (use_source_of use_.source) n
             ⊎ Occurs n s (taken_side (direction_of use_.direction) (statement_of statement))
-            → StandsForItself (proving_in proving) (source_of use_.source) n ⊎ Occurs n s (term_in (taken_in use_.direction statement))
+            → StandsForItself (proving_in proving) (use_source_of use_.source) n ⊎ Occurs n s (term_in (taken_in use_.direction statement))
         go (inl itself) = inl itself
         go (inr there) = inr (subst (Occurs n s) (takes use_.direction statement) there)

@@ -2,7 +2,7 @@
 use Rattle.std.specs.Prelude.{◌<◌, ℕ, List, map}
 use Rattle.lotos_base.specs.Signature.{Signature}
 use Rattle.lotos_base.specs.Sorting.{Occurs}
-use Rattle.lotos_base.proofs.ExampleHelpers.{Each}
+use Rattle.lotos_base.proofs.Each.{Each}
 use Rattle.sort_terms.specs.SortedView.{term_in}
 use Rattle.term_match.specs.Matched.{TermHasOneSortPerNumber}
 use Rattle.certificate_theory.specs.Patterns.{Pattern as PlainPattern}

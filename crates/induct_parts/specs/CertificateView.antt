@@ -39,22 +39,22 @@ abbrev pub trees_in : List PatternTree → List plain.PatternTree
 trees_in trees = map tree_in trees
 
 -- a use
-abbrev pub side_of : Side → plain.Side
-side_of Left = plain.left_side
-side_of Right = plain.right_side
+abbrev pub use_side_of : Side → plain.Side
+use_side_of Left = plain.left_side
+use_side_of Right = plain.right_side
 
 abbrev pub direction_of : Direction → equality.Direction
 direction_of Forward = equality.forward
 direction_of Backward = equality.backward
 
-abbrev pub source_of : Source → plain.Source
-source_of (source.Lemma k) = plain.by_lemma k
-source_of (source.Hypothesis k) = plain.by_hypothesis k
+abbrev pub use_source_of : Source → plain.Source
+use_source_of (source.Lemma k) = plain.by_lemma k
+use_source_of (source.Hypothesis k) = plain.by_hypothesis k
 
 abbrev pub use_of : Use → plain.Use
 use_of use_ = record {
-  source = source_of use_.source;
-  side = side_of use_.side;
+  source = use_source_of use_.source;
+  side = use_side_of use_.side;
   path = use_.path.items;
   direction = direction_of use_.direction;
 }

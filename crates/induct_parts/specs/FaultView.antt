@@ -7,19 +7,19 @@ use Rattle.induct_parts.specs.declared.line_fault.LineFault.TheVariants.{BadLine
 use Rattle.induct_parts.specs.declared.at_line.AtLine.{AtLine}
 
 -- What is said of a fault holds of the one that the code tells. Want of memory says nothing.
-abbrev pub HoldsOfFault : (InductionFault → Type 0) → LineFault → Type 0
-HoldsOfFault P BadLine = P bad_line
-HoldsOfFault P NoVariable = P no_variable
-HoldsOfFault P NoCover = P no_cover
-HoldsOfFault P (NoTree f) = P (no_tree f)
-HoldsOfFault P NotReducible = P not_reducible
-HoldsOfFault P BadUse = P bad_use
-HoldsOfFault P (NotSame statement) = P (not_same (statement_of statement))
-HoldsOfFault P NoMemory = Unit {0}
+abbrev pub HoldsOfLineFault : (InductionFault → Type 0) → LineFault → Type 0
+HoldsOfLineFault P BadLine = P bad_line
+HoldsOfLineFault P NoVariable = P no_variable
+HoldsOfLineFault P NoCover = P no_cover
+HoldsOfLineFault P (NoTree f) = P (no_tree f)
+HoldsOfLineFault P NotReducible = P not_reducible
+HoldsOfLineFault P BadUse = P bad_use
+HoldsOfLineFault P (NotSame statement) = P (not_same (statement_of statement))
+HoldsOfLineFault P NoMemory = Unit {0}
 
 -- And of one at a line.
 abbrev pub HoldsAtLine : (ℕ → InductionFault → Type 0) → AtLine → Type 0
-HoldsAtLine P at = HoldsOfFault (P at.line) at.fault
+HoldsAtLine P at = HoldsOfLineFault (P at.line) at.fault
 
 -- What is said of lines that are counted from 0 is said of these, of which the first has this number.
 abbrev pub FromLine : ℕ → (ℕ → InductionFault → Type 0) → ℕ → InductionFault → Type 0

@@ -4,9 +4,9 @@ use Rattle.std.specs.Prelude.{◌≡◌, ℕ, List, [], ◌∷◌, ◌++◌, Boo
 use Rattle.sort_terms.specs.ProfiledTerm.{ProfiledTerm, profiled_variable, profiled_node}
 
 -- whether this is the sort that is listed
-abbrev pub is_sort : Option ℕ → ℕ → Bool
-is_sort None sort = false
-is_sort (Some listed) sort = nat_eq listed sort
+abbrev pub is_listed_sort : Option ℕ → ℕ → Bool
+is_listed_sort None sort = false
+is_listed_sort (Some listed) sort = nat_eq listed sort
 
 -- whether the variable with this number and sort is among those
 abbrev pub is_variable : ℕ × ℕ → ℕ → ℕ → Bool
@@ -19,7 +19,7 @@ is_seen (known ∷ seen) number sort = if is_variable known number sort then tru
 -- whether what is found for the variable with this number is a variable of its sort, which is listed at its number, and none of
 -- those that were seen
 abbrev pub is_renamed : (sorts : List ℕ) (seen : List (ℕ × ℕ)) → ℕ × ProfiledTerm → Bool
-is_renamed sorts seen (n, profiled_variable m s) = if is_sort (slice_get sorts n) s then not (is_seen seen m s) else false
+is_renamed sorts seen (n, profiled_variable m s) = if is_listed_sort (slice_get sorts n) s then not (is_seen seen m s) else false
 is_renamed sorts seen (n, profiled_node f operation ts) = false
 
 -- those that were seen, with what is found there

@@ -3,7 +3,7 @@ use Rattle.std.specs.Prelude.{◌≡◌, ℕ, List, Some, slice_get}
 use Rattle.lotos_base.specs.Signature.{Signature, Operation, IsOperation}
 use Rattle.lotos_base.specs.Term.{Term}
 use Rattle.lotos_base.specs.Equation.{Data}
-use Rattle.lotos_base.proofs.ExampleHelpers.{Each}
+use Rattle.lotos_base.proofs.Each.{Each}
 use Rattle.sort_terms.specs.SignatureView.{signature_of}
 use Rattle.path_order.specs.RulesView.{plain_rules_in}
 use Rattle.certificate_theory.specs.InductionCertificate.{Cover, Lemma}

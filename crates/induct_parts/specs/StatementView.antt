@@ -15,8 +15,8 @@ abbrev pub statement_of : Statement → plain.Statement
 statement_of statement = record { left = term_in statement.left; right = term_in statement.right }
 
 -- its sides with their profiles
-abbrev pub profiles_in : Statement → ProfiledTerm × ProfiledTerm
-profiles_in statement = (profiled_in statement.left, profiled_in statement.right)
+abbrev pub profiled_sides_of : Statement → ProfiledTerm × ProfiledTerm
+profiled_sides_of statement = (profiled_in statement.left, profiled_in statement.right)
 
 -- one of the sides
 abbrev pub side_in : Side → Statement → Sorted

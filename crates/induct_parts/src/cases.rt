@@ -62,7 +62,7 @@ pub fn first<D: Deciding>(
     ensures known { IfOk result (λ point. IsKnownCase (setting_signature setting.now)
         (length lemma.now.variables.items) point) }
 {
-    let goal = normal_both(setting, data_, &lemma.statement)?;
+    let goal = normal_both(data_, &lemma.statement)?;
     let sorts = Vec::from_slice(setting.alloc, lemma.variables.as_slice())?;
     let gone = absent(setting.alloc, &lemma.statement, lemma.variables.as_slice())?;
     Ok(Case {

@@ -7,7 +7,7 @@ ghost use Rattle.induct_parts.specs.StatementView.{IsStatementOf, statement_of};
 ghost use Rattle.certificate_theory.specs.Patterns.{put_for as put_for_variable};
 ghost use Rattle.certificate_theory.specs.Requirements.{OccursInSide};
 ghost use Rattle.certificate_theory.specs.Splits.{hypotheses_behind, hypotheses_for, in_both};
-ghost use Rattle.lotos_base.proofs.ExampleHelpers.{Each};
+ghost use Rattle.lotos_base.proofs.Each.{Each};
 ghost use Rattle.lotos_base.specs.Signature.{IsSort, Signature};
 ghost use Rattle.lotos_base.specs.Substitution.{substituted};
 ghost use Rattle.lotos_base.specs.Term.{variable};
@@ -69,20 +69,15 @@ pub fn behind(
         (λ made. Each (IsStatementOf (setting_signature setting.now)) made.items) }
 {
     if put.variable < proving.free {
-        added(setting, proving, point, put)
+        added(setting, point, put)
     } else {
-        changed(setting, proving, point, put)
+        changed(setting, point, put)
     }
 }
 
 // The hypotheses, and one more for each argument of the variable's sort.
-fn added(
-    setting: &Setting,
-    proving: &Proving,
-    point: &Case,
-    put: &Put,
-) -> Result<Vec<Statement>, NoMemory>
-    requires known { IsKnownCase (setting_signature setting.now) proving.now.free point.now }
+fn added(setting: &Setting, point: &Case, put: &Put) -> Result<Vec<Statement>, NoMemory>
+    requires known { (free : ℕ) × IsKnownCase (setting_signature setting.now) free point.now }
     requires put { IsPut setting.now point.now put.now }
     requires room { length point.now.sorts.items + length put.now.op.now.arguments.items
         < 2 ^ 64 }
@@ -96,7 +91,7 @@ fn added(
     let mut made = statement_copies(&point.hypotheses)?;
     let arguments = put.op.arguments.as_slice();
     for i in 0..arguments.len() {
-        add_if_sorted(setting, proving, point, put, i, arguments[i], &mut made)?;
+        add_if_sorted(setting, point, put, i, arguments[i], &mut made)?;
     }
     Ok(made)
 }
@@ -105,14 +100,13 @@ fn added(
 // the variable's sort.
 fn add_if_sorted(
     setting: &Setting,
-    proving: &Proving,
     point: &Case,
     put: &Put,
     i: usize,
     sort: u32,
     made: &mut Vec<Statement>,
 ) -> Result<(), NoMemory>
-    requires known { IsKnownCase (setting_signature setting.now) proving.now.free point.now }
+    requires known { (free : ℕ) × IsKnownCase (setting_signature setting.now) free point.now }
     requires put { IsPut setting.now point.now put.now }
     requires room { length point.now.sorts.items + length put.now.op.now.arguments.items
         < 2 ^ 64 }
@@ -127,7 +121,6 @@ fn add_if_sorted(
         (Each (IsStatementOf (setting_signature setting.now)) made.old.items
         → Each (IsStatementOf (setting_signature setting.now)) made.new.items) }
 {
-    let _ = proving;
     if sort != put.op.result {
         return Ok(());
     }
@@ -161,13 +154,8 @@ fn with_argument(
 }
 
 // The hypotheses with the operation put in.
-fn changed(
-    setting: &Setting,
-    proving: &Proving,
-    point: &Case,
-    put: &Put,
-) -> Result<Vec<Statement>, NoMemory>
-    requires known { IsKnownCase (setting_signature setting.now) proving.now.free point.now }
+fn changed(setting: &Setting, point: &Case, put: &Put) -> Result<Vec<Statement>, NoMemory>
+    requires known { (free : ℕ) × IsKnownCase (setting_signature setting.now) free point.now }
     requires put { IsPut setting.now point.now put.now }
     ensures changed { IfOk result (λ made. map statement_of made.items
         ≡ map (in_both (substituted (put_for_variable put.now.variable put.now.op.now.result
@@ -175,7 +163,6 @@ fn changed(
     ensures over { IfOk result
         (λ made. Each (IsStatementOf (setting_signature setting.now)) made.items) }
 {
-    let _ = proving;
     let hypotheses = point.hypotheses.as_slice();
     let mut made = Vec::with_capacity(setting.alloc, hypotheses.len())?;
     for number in 0..hypotheses.len() {

@@ -8,7 +8,7 @@ ghost use Rattle.induct_parts.specs.CertificateView.{
   proof_line_of,
   use_of,
 };
-ghost use Rattle.induct_parts.specs.FaultView.{FromLine, HoldsAtLine, HoldsOfFault};
+ghost use Rattle.induct_parts.specs.FaultView.{FromLine, HoldsAtLine, HoldsOfLineFault};
 ghost use Rattle.induct_parts.specs.SettingView.{
   AreKnownBefore,
   IsKnownLemma,
@@ -36,7 +36,7 @@ ghost use Rattle.certificate_theory.specs.Lines.{
   LinesReach,
 };
 ghost use Rattle.certificate_theory.specs.Proofs.{CaseComesTo, IsWrongAtCase};
-ghost use Rattle.lotos_base.proofs.ExampleHelpers.{Each};
+ghost use Rattle.lotos_base.proofs.Each.{Each};
 ghost use Rattle.std.specs.Prelude.{
   ◌≡◌,
   ◌≢◌,
@@ -201,7 +201,7 @@ fn next<D: Deciding>(
         (proof_line_of line.now ∷ []) (cases_in (reverse left.new.items))) }
     ensures known { OnOk result (Each (IsKnownCase (setting_signature setting.now) proving.now.free)
         (reverse left.new.items)) }
-    ensures wrong { IfErr result (λ fault. (rest : List PlainLine) → HoldsOfFault (FailsToDeal
+    ensures wrong { IfErr result (λ fault. (rest : List PlainLine) → HoldsOfLineFault (FailsToDeal
         (CaseComesTo (theory_in setting.now (D.known_data data_.old) (D.canon data_.old))
         (setting_covers setting.now) (proving_in proving.now))
         (IsWrongAtCase (theory_in setting.now (D.known_data data_.old) (D.canon data_.old))
@@ -234,7 +234,7 @@ pub fn proof_line<D: Deciding>(
         (proof_line_of line.now) (cases_in parts.items)) }
     ensures known { IfOk result (λ parts. Each
         (IsKnownCase (setting_signature setting.now) proving.now.free) parts.items) }
-    ensures wrong { IfErr result (λ fault. HoldsOfFault (IsWrongAtCase
+    ensures wrong { IfErr result (λ fault. HoldsOfLineFault (IsWrongAtCase
         (theory_in setting.now (D.known_data data_.old) (D.canon data_.old))
         (setting_covers setting.now) (proving_in proving.now) (case_in point.now)
         (proof_line_of line.now)) fault) }
@@ -265,7 +265,7 @@ fn use_line<D: Deciding>(
         (use_it (use_of use_.now)) (cases_in parts.items)) }
     ensures known { IfOk result (λ parts. Each
         (IsKnownCase (setting_signature setting.now) proving.now.free) parts.items) }
-    ensures wrong { IfErr result (λ fault. HoldsOfFault (IsWrongAtCase
+    ensures wrong { IfErr result (λ fault. HoldsOfLineFault (IsWrongAtCase
         (theory_in setting.now (D.known_data data_.old) (D.canon data_.old))
         (setting_covers setting.now) (proving_in proving.now) (case_in point.now)
         (use_it (use_of use_.now))) fault) }
@@ -273,7 +273,7 @@ fn use_line<D: Deciding>(
     let Some(made) = used(setting, proving, point, use_)? else {
         return Err(LineFault::BadUse);
     };
-    let goal = normal_both(setting, data_, &made)?;
+    let goal = normal_both(data_, &made)?;
     let sorts = Vec::from_slice(setting.alloc, point.sorts.as_slice())?;
     let gone = Vec::from_slice(setting.alloc, point.gone.as_slice())?;
     let hypotheses = statement_copies(&point.hypotheses)?;
@@ -292,7 +292,7 @@ fn use_line<D: Deciding>(
 fn end(setting: &Setting, point: &Case) -> Result<Vec<Case>, LineFault>
     ensures same { IfOk result (λ parts. (parts.items ≡ [])
         × ((case_in point.now).goal.left ≡ (case_in point.now).goal.right)) }
-    ensures wrong { IfErr result (λ fault. HoldsOfFault
+    ensures wrong { IfErr result (λ fault. HoldsOfLineFault
         (λ told. ((case_in point.now).goal.left ≢ (case_in point.now).goal.right)
         × (told ≡ not_same (case_in point.now).goal)) fault) }
 {

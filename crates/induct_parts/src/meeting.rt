@@ -5,7 +5,7 @@ ghost use Rattle.induct_parts.specs.Meeting.{
   are_renamed,
   is_renamed,
   is_seen,
-  is_sort,
+  is_listed_sort,
   is_variable,
   seen_with,
 };
@@ -16,7 +16,7 @@ ghost use Rattle.certificate_theory.specs.Requirements.{
   IsRenamedStatement,
   stated,
 };
-ghost use Rattle.lotos_base.proofs.ExampleHelpers.{Each};
+ghost use Rattle.lotos_base.proofs.Each.{Each};
 ghost use Rattle.lotos_base.specs.Signature.{Signature};
 ghost use Rattle.sort_terms.specs.EquationView.{equation_of};
 ghost use Rattle.sort_terms.specs.TermView.{profiled_of};
@@ -143,7 +143,7 @@ fn new_variable(sorts: &[u32], seen: &[(u64, u32)], number: u64, term: &Term) ->
 
 // Whether this sort is listed for the variable.
 fn has_sort(sorts: &[u32], number: u64, sort: u32) -> bool
-    ensures { result ≡ is_sort (slice_get sorts.now number) sort }
+    ensures { result ≡ is_listed_sort (slice_get sorts.now number) sort }
 {
     match sorts.get(number as usize) {
         Some(listed) => *listed == sort,

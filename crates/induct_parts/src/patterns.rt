@@ -2,7 +2,7 @@
 
 ghost use Rattle.induct_parts.specs.CaseView.{IsKnownPattern, pattern_in, patterns_in};
 ghost use Rattle.induct_parts.specs.CertificateView.{tree_line_of};
-ghost use Rattle.induct_parts.specs.FaultView.{HoldsOfFault};
+ghost use Rattle.induct_parts.specs.FaultView.{HoldsOfLineFault};
 ghost use Rattle.induct_parts.specs.SettingView.{
   HasCoverResults,
   setting_covers,
@@ -23,7 +23,7 @@ ghost use Rattle.certificate_theory.specs.Patterns.{
   split_patterns,
   split_with,
 };
-ghost use Rattle.lotos_base.proofs.ExampleHelpers.{Each};
+ghost use Rattle.lotos_base.proofs.Each.{Each};
 ghost use Rattle.lotos_base.specs.Path.{subterm};
 ghost use Rattle.lotos_base.specs.Signature.{IsOperation, Operation};
 ghost use Rattle.lotos_base.specs.Sorting.{Occurs};
@@ -100,7 +100,7 @@ pub fn pattern_line(
         (setting_rules setting.now) (setting_covers setting.now) (pattern_in pattern.now)
         (tree_line_of line.now) (patterns_in parts.items)) }
     ensures known { IfOk result (λ parts. Each (λ p. IsKnownPattern (pattern_in p)) parts.items) }
-    ensures wrong { IfErr result (λ fault. HoldsOfFault
+    ensures wrong { IfErr result (λ fault. HoldsOfLineFault
         (IsWrongAtPattern (setting_rules setting.now) (setting_covers setting.now)
         (pattern_in pattern.now) (tree_line_of line.now)) fault) }
 {
@@ -116,7 +116,7 @@ fn leaf(setting: &Setting, pattern: &Pattern) -> Result<Vec<Pattern>, LineFault>
         (setting_rules setting.now) (setting_covers setting.now) (pattern_in pattern.now) leaf_here
         (patterns_in parts.items)) }
     ensures known { IfOk result (λ parts. Each (λ p. IsKnownPattern (pattern_in p)) parts.items) }
-    ensures wrong { IfErr result (λ fault. HoldsOfFault
+    ensures wrong { IfErr result (λ fault. HoldsOfLineFault
         (IsWrongAtPattern (setting_rules setting.now) (setting_covers setting.now)
         (pattern_in pattern.now) leaf_here) fault) }
 {
@@ -147,7 +147,7 @@ fn split(setting: &Setting, pattern: &Pattern, path: &[u32]) -> Result<Vec<Patte
         (setting_rules setting.now) (setting_covers setting.now) (pattern_in pattern.now)
         (split_pattern path.now) (patterns_in parts.items)) }
     ensures known { IfOk result (λ parts. Each (λ p. IsKnownPattern (pattern_in p)) parts.items) }
-    ensures wrong { IfErr result (λ fault. HoldsOfFault
+    ensures wrong { IfErr result (λ fault. HoldsOfLineFault
         (IsWrongAtPattern (setting_rules setting.now) (setting_covers setting.now)
         (pattern_in pattern.now) (split_pattern path.now)) fault) }
 {
@@ -172,7 +172,7 @@ fn split_of(
         × (patterns_in parts.items ≡ split_patterns (setting_signature setting.now)
         (pattern_in pattern.now) number sort operations)) }
     ensures known { IfOk result (λ parts. Each (λ p. IsKnownPattern (pattern_in p)) parts.items) }
-    ensures wrong { IfErr result (λ fault. HoldsOfFault
+    ensures wrong { IfErr result (λ fault. HoldsOfLineFault
         (λ told. (first_cover_of (setting_covers setting.now) sort ≡ None) × (told ≡ no_cover))
         fault) }
 {

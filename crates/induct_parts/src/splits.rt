@@ -1,7 +1,7 @@
 //! Splits of variables.
 
 ghost use Rattle.induct_parts.specs.CaseView.{IsKnownCase, case_in, cases_in};
-ghost use Rattle.induct_parts.specs.FaultView.{HoldsOfFault};
+ghost use Rattle.induct_parts.specs.FaultView.{HoldsOfLineFault};
 ghost use Rattle.induct_parts.specs.SettingView.{
   IsSet,
   proving_in,
@@ -18,7 +18,7 @@ ghost use Rattle.certificate_theory.specs.Covers.{
 ghost use Rattle.certificate_theory.specs.Faults.{no_cover};
 ghost use Rattle.certificate_theory.specs.Proofs.{CaseComesTo, IsWrongAtCase};
 ghost use Rattle.certificate_theory.specs.Splits.{IsInScope, case_with, cases_of_split};
-ghost use Rattle.lotos_base.proofs.ExampleHelpers.{Each};
+ghost use Rattle.lotos_base.proofs.Each.{Each};
 ghost use Rattle.lotos_base.specs.Signature.{IsOperation, Operation};
 ghost use Rattle.lotos_base.specs.Substitution.{is_listed as is_listed_in};
 ghost use Rattle.std.specs.Prelude.{
@@ -65,7 +65,7 @@ pub fn split<D: Deciding>(
         (split_variable number) (cases_in parts.items)) }
     ensures known { IfOk result (λ parts. Each
         (IsKnownCase (setting_signature setting.now) proving.now.free) parts.items) }
-    ensures wrong { IfErr result (λ fault. HoldsOfFault (IsWrongAtCase
+    ensures wrong { IfErr result (λ fault. HoldsOfLineFault (IsWrongAtCase
         (theory_in setting.now (D.known_data data_.old) (D.canon data_.old))
         (setting_covers setting.now) (proving_in proving.now) (case_in point.now)
         (split_variable number)) fault) }
@@ -97,7 +97,7 @@ fn split_of<D: Deciding>(
         (proving_in proving.now) (case_in point.now) number sort operations)) }
     ensures known { IfOk result (λ parts. Each
         (IsKnownCase (setting_signature setting.now) proving.now.free) parts.items) }
-    ensures wrong { IfErr result (λ fault. HoldsOfFault
+    ensures wrong { IfErr result (λ fault. HoldsOfLineFault
         (λ told. (first_cover_of (setting_covers setting.now) sort ≡ None) × (told ≡ no_cover))
         fault) }
 {
@@ -225,7 +225,7 @@ fn part<D: Deciding>(
     };
     let hypotheses = behind(setting, proving, point, &put)?;
     let with_term = put_for(setting.alloc, &point.goal, number as u64, &term)?;
-    let goal = normal_both(setting, data_, &with_term)?;
+    let goal = normal_both(data_, &with_term)?;
     let gone = one_before(setting.alloc, number, point.gone.as_slice())?;
     Ok(Case {
         sorts,

@@ -4,7 +4,7 @@ ghost use Rattle.induct_parts.specs.SettingView.{setting_signature};
 ghost use Rattle.induct_parts.specs.StatementView.{
   IsStatementOf,
   placed_in,
-  profiles_in,
+  profiled_sides_of,
   statement_of,
   taken_in,
 };
@@ -37,7 +37,7 @@ pub struct Statement {
 
 impl Statement {
     ghost use Rattle.induct_parts.specs.StatementView.{
-      profiles_in as profiles_of,
+      profiled_sides_of as profiles_of,
       side_in,
     };
 
@@ -84,8 +84,8 @@ pub fn placed(direction: Direction, statement: &Statement) -> &Sorted
 
 /// The same statements.
 pub fn statement_copies(statements: &Vec<Statement>) -> Result<Vec<Statement>, NoMemory>
-    ensures { IfOk result (λ made. map profiles_in made.items
-        ≡ map profiles_in statements.now.items) }
+    ensures { IfOk result (λ made. map profiled_sides_of made.items
+        ≡ map profiled_sides_of statements.now.items) }
 {
     let mut made = Vec::with_capacity(*statements.allocator(), statements.len())?;
     for statement in statements {
@@ -139,20 +139,15 @@ fn single(alloc: Global, number: u64, term: &Sorted) -> Result<Subst, NoMemory>
 }
 
 /// The statement with both sides in normal form.
-pub fn normal_both<D: Deciding>(
-    setting: &Setting,
-    data_: &mut D,
-    statement: &Statement,
-) -> Result<Statement, NoMemory>
-    requires same { setting_signature setting.now ≡ (D.known_data data_.old).signature }
-    requires over { IsStatementOf (setting_signature setting.now) statement.now }
+pub fn normal_both<D: Deciding>(data_: &mut D, statement: &Statement) -> Result<Statement, NoMemory>
+    requires { IsStatementOf (D.known_data data_.old).signature statement.now }
     ensures same_data { D.known_data data_.new ≡ D.known_data data_.old }
     ensures same_canon { D.canon data_.new ≡ D.canon data_.old }
-    ensures over { IfOk result (λ made. IsStatementOf (setting_signature setting.now) made) }
+    ensures over { IfOk result (λ made. (signature : Signature)
+        → signature ≡ (D.known_data data_.old).signature → IsStatementOf signature made) }
     ensures made { IfOk result (λ made. statement_of made
         ≡ in_both (D.canon data_.old) (statement_of statement.now)) }
 {
-    let _ = setting;
     let left = data_.normal(&statement.left)?;
     let right = data_.normal(&statement.right)?;
     Ok(Statement { left, right })

@@ -2,7 +2,7 @@
 
 ghost use Rattle.induct_parts.specs.CaseView.{IsKnownPattern, pattern_in, patterns_in};
 ghost use Rattle.induct_parts.specs.CertificateView.{tree_in, tree_line_of, trees_in};
-ghost use Rattle.induct_parts.specs.FaultView.{FromLine, HoldsAtLine, HoldsOfFault};
+ghost use Rattle.induct_parts.specs.FaultView.{FromLine, HoldsAtLine, HoldsOfLineFault};
 ghost use Rattle.induct_parts.specs.SettingView.{
   HasCoverResults,
   setting_covers,
@@ -27,7 +27,7 @@ ghost use Rattle.certificate_theory.specs.Lines.{
   LinesReach,
 };
 ghost use Rattle.certificate_theory.specs.Patterns.{IsWrongAtPattern, PatternComesTo};
-ghost use Rattle.lotos_base.proofs.ExampleHelpers.{Each};
+ghost use Rattle.lotos_base.proofs.Each.{Each};
 ghost use Rattle.lotos_base.specs.Equation.{Data};
 ghost use Rattle.lotos_base.specs.Signature.{IsOperation, Operation};
 ghost use Rattle.lotos_base.specs.Substitution.{is_listed as is_listed_in};
@@ -172,7 +172,7 @@ fn next(setting: &Setting, left: &mut Vec<Pattern>, line: &TreeLine) -> Result<(
         (tree_line_of line.now ∷ []) (patterns_in (reverse left.new.items))) }
     ensures known { OnOk result
         (Each (λ p. IsKnownPattern (pattern_in p)) (reverse left.new.items)) }
-    ensures wrong { IfErr result (λ fault. (rest : List PlainLine) → HoldsOfFault (FailsToDeal
+    ensures wrong { IfErr result (λ fault. (rest : List PlainLine) → HoldsOfLineFault (FailsToDeal
         (PatternComesTo (setting_signature setting.now) (setting_rules setting.now)
         (setting_covers setting.now))
         (IsWrongAtPattern (setting_rules setting.now) (setting_covers setting.now)) bad_line

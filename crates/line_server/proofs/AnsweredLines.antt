@@ -47,11 +47,6 @@ some_still machine state last lines more later text some = record {
   answered = some.answered;
 }
 
--- all of them
-pub some_all : {State : Type 0} (machine : Machine State) (state last : State) (lines later : List (List ℕ)) (text : List ℕ)
-    → Answered machine state lines text last false → AnsweredSome machine state (lines ++ later) text last later
-some_all machine state last lines later text answered = record { first = lines; are = refl; answered = answered }
-
 pub failed_then : {State : Type 0} (machine : Machine State) (state between after : State) (lines more : List (List ℕ)) (text : List ℕ)
     (written written_between written_after : Option (List ℕ))
     → Answered machine state lines text between false → WritesAll written written_between text

@@ -2,7 +2,7 @@ mod Pieces
 pub mod Cuts
 mod WrittenTexts
 pub mod AnsweredLines
-mod ServedBytes
+pub mod ServedBytes
 mod TurnLemmas
 mod SessionTurns
 pub mod LineLemmas

@@ -2,7 +2,7 @@
 use Rattle.std.proofs.Common.{ℕ, ◌≤◌, nat_eq, Bool, true, false, if◌then◌else◌, List, [], ◌∷◌, take, drop, length, reverse, arith, length-drop}
 use Rattle.std.proofs.lemmas.List.{length-reverse, length-take}
 use Rattle.lotos_lexer.specs.Bytes.{is_blank}
-use Rattle.line_server.specs.Line.{behind_blanks, before_blanks, behind_spaces, first_word, behind_word, word_length}
+use Rattle.line_server.specs.Line.{behind_blanks, before_blanks, behind_spaces, first_word, behind_word, length_to_space}
 
 either_short : (n : ℕ) (test : Bool) (one other : List ℕ) → length one ≤ n → length other ≤ n
     → length (if test then one else other) ≤ n
@@ -27,7 +27,7 @@ end_short line =
 
 pub word_short : (line : List ℕ) → length (behind_word line) ≤ length line
 word_short line =
-    omega (arith, spaces_short (drop (word_length line) line), length-drop (word_length line) line)
+    omega (arith, spaces_short (drop (length_to_space line) line), length-drop (length_to_space line) line)
 
 pub first_short : (line : List ℕ) → length (first_word line) ≤ length line
-first_short line = omega (arith, length-take (word_length line) line)
+first_short line = omega (arith, length-take (length_to_space line) line)

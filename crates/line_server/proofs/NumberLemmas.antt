@@ -1,8 +1,9 @@
 -- The numbers in lines.
-use Rattle.std.proofs.Common.{◌≡◌, ◌<◌, ◌≤◌, ◌+◌, ◌*◌, ◌-◌, ℕ, List, ◌∷◌, drop, length, get_or, true, ap, ◌∙◌, subst}
+use Rattle.std.proofs.Common.{◌≡◌, ◌<◌, ◌≤◌, ◌+◌, ◌*◌, ◌-◌, ◌^◌, ℕ, List, ◌∷◌, drop, length, get_or, true, ap, ◌∙◌, arith, lt_of_lt_of_le, subst}
 use Rattle.std.specs.List.{list_all}
 use Rattle.std.specs.Char.{is_ascii_digit}
 use Rattle.std.specs.Str.Parse.{digits_value_after}
+use Rattle.std.proofs.Math.Nat.{pow-le-pow_right}
 use Rattle.std.proofs.lemmas.Bool.{and_parts}
 use Rattle.lotos_base.proofs.Pieces.{next_member}
 use Rattle.lotos_base.proofs.Digits.{digit_is, digit_value_is}
@@ -28,3 +29,7 @@ digit_read digits index value digit below is all =
       high = range.1;
       rest = parts.1;
     }
+
+-- a number of fewer than ten digits is below a thousand million
+pub fits_ten : (index value : ℕ) → index < 10 → value < 10 ^ index → value < 1000000000
+fits_ten index value small below = lt_of_lt_of_le below (pow-le-pow_right {n = 10} (omega arith) {i = index} {j = 9} (omega (arith, small)))

@@ -3,13 +3,11 @@ use Rattle.std.proofs.Common.{◌≡◌, ◌≢◌, ℕ, zero, suc, ◌+◌, ◌
 use Rattle.std.specs.Str.{bytes_eq, is_utf8, IsUtf8}
 use Rattle.std.proofs.lemmas.Str.{IsUtf8-from_is_utf8, is_utf8-from_IsUtf8}
 use Rattle.std.proofs.lemmas.List.{take_rest}
-use Rattle.line_server.specs.Line.{behind_blanks, behind_spaces, first_word, behind_word, word_length, stripped}
-use Rattle.line_server.specs.Request.{Request, show_menu, show_behaviour, show_trace, undo, leave, save, replay, only, number_in, size_in, step_by, values_by, instances_by, with_name, name_of, named, asked_with, requested_by, requested_in, request_of}
+use Rattle.lotos_base.proofs.Truth.{unit}
+use Rattle.line_server.specs.Line.{behind_blanks, behind_spaces, first_word, behind_word, length_to_space, stripped}
+use Rattle.line_server.specs.Request.{Request, show_menu, show_behaviour, show_trace, undo, leave, save, replay, only, number_in_word, size_in, step_by, values_request_by, instances_by, request_with_name, name_of, request_named, asked_with, requested_by, requested_in, request_of}
 use Rattle.line_server.specs.RequestLaws.{Carries}
 use Rattle.line_server.proofs.LineLemmas.{blanks_short, end_short, spaces_short, word_short, first_short}
-
-unit : Unit {0}
-unit = tt
 
 either_carries : (n : ℕ) (test : Bool) (one other : Request) → Carries n one → Carries n other
     → Carries n (if test then one else other)
@@ -24,7 +22,7 @@ step_carries : (n : ℕ) (number : Option ℕ) (terms : List ℕ) → length ter
 step_carries n None terms within = unit
 step_carries n (Some number) terms within = within
 
-values_carry : (n : ℕ) (name : List ℕ) (size : Option ℕ) → length name ≤ n → Carries n (values_by name size)
+values_carry : (n : ℕ) (name : List ℕ) (size : Option ℕ) → length name ≤ n → Carries n (values_request_by name size)
 values_carry n name None within = unit
 values_carry n name (Some size) within = within
 
@@ -34,18 +32,18 @@ instances_carry n (Some number) None = unit
 instances_carry n (Some number) (Some size) = unit
 
 name_carries : (n : ℕ) (request : List ℕ → Request) (rest : List ℕ)
-    → ((name : List ℕ) → length name ≤ n → Carries n (request name)) → length rest ≤ n → Carries n (named request rest)
+    → ((name : List ℕ) → length name ≤ n → Carries n (request name)) → length rest ≤ n → Carries n (request_named request rest)
 name_carries n make [] so within = unit
 name_carries n make (byte ∷ bytes) so within = by (is_utf8 (byte ∷ bytes))
   where
-    by : (test : Bool) → Carries n (with_name make (if test then Some (byte ∷ bytes) else None))
+    by : (test : Bool) → Carries n (request_with_name make (if test then Some (byte ∷ bytes) else None))
     by true = so (byte ∷ bytes) within
     by false = unit
 
 with_carries : (n : ℕ) (word rest : List ℕ) → length rest ≤ n → Carries n (asked_with word rest)
 with_carries n word rest within =
     either_carries n (bytes_eq word (codes "step")) _ _
-    (step_carries n (number_in (first_word rest)) (behind_word rest) (omega (arith, word_short rest, within)))
+    (step_carries n (number_in_word (first_word rest)) (behind_word rest) (omega (arith, word_short rest, within)))
     (either_carries n (bytes_eq word (codes "save")) _ _ (name_carries n save rest (λ name short. short) within)
     (either_carries n (bytes_eq word (codes "replay")) _ _ (name_carries n replay rest (λ name short. short) within)
     (either_carries n (bytes_eq word (codes "normal")) _ _ within
@@ -53,7 +51,7 @@ with_carries n word rest within =
     (either_carries n (bytes_eq word (codes "values")) _ _
     (values_carry n (first_word rest) (size_in (behind_word rest)) (omega (arith, first_short rest, within)))
     (either_carries n (bytes_eq word (codes "instances")) _ _
-    (instances_carry n (number_in (first_word rest)) (size_in (behind_word rest))) unit))))))
+    (instances_carry n (number_in_word (first_word rest)) (size_in (behind_word rest))) unit))))))
 
 word_carries : (n : ℕ) (word rest : List ℕ) → length rest ≤ n → Carries n (requested_by word rest)
 word_carries n word rest within =
@@ -70,7 +68,7 @@ no_word n rest = unit
 
 line_carries : (n : ℕ) (line : List ℕ) → length line ≤ n + 1 → Carries n (requested_in line)
 line_carries n [] within = unit
-line_carries n (byte ∷ bytes) within = by (word_length (byte ∷ bytes))
+line_carries n (byte ∷ bytes) within = by (length_to_space (byte ∷ bytes))
   where
     by : (count : ℕ) → Carries n (requested_by (take count (byte ∷ bytes)) (behind_spaces (drop count (byte ∷ bytes))))
     by zero = no_word n (behind_spaces (byte ∷ bytes))
@@ -85,7 +83,7 @@ request_within line n within =
 -- ---- What the code reads
 
 -- a line that is not empty, by its first word and what stands behind this
-pub asked_here : (line whole word rest : List ℕ) (count : ℕ) → whole ≡ stripped line → whole ≢ [] → count ≡ word_length whole
+pub asked_here : (line whole word rest : List ℕ) (count : ℕ) → whole ≡ stripped line → whole ≢ [] → count ≡ length_to_space whole
     → word ≡ take count whole → rest ≡ behind_spaces (take (length whole - count) (drop count whole))
     → requested_by word rest ≡ request_of line
 asked_here line [] word rest count is some counted first more = absurd (some refl)

@@ -147,7 +147,7 @@ served_still machine line one two bytes others first = record {
   counts = first.counts;
 }
 
-rises_from : (before between after : ℕ) → between ≡ before → Rises between after → Rises before after
+pub rises_from : (before between after : ℕ) → between ≡ before → Rises between after → Rises before after
 rises_from before between after is rises = subst (λ (it : ℕ). Rises it after) is rises
 
 -- serving stops at one of the lines behind these

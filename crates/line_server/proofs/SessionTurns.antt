@@ -6,7 +6,7 @@ use Rattle.line_server.specs.Cutting.{complete, unfinished, last_line, lines_in}
 use Rattle.line_server.specs.Machine.{Machine}
 use Rattle.line_server.specs.Answered.{Answered}
 use Rattle.line_server.specs.Serving.{HasServed, StopsAt}
-use Rattle.line_server.specs.Turn.{Surroundings, Turning, turning, moment_in, IsRead, IsAtEnd, TurnGoesOn, EndsIn, at_end, input_failed, past_limit, in_piece, LinesEndWith, all_served, stopped_at, EndsInPiece, by_line, by_stop, SessionCloses, closed, broken_off, failed_text, too_long_text, end_at}
+use Rattle.line_server.specs.Turn.{Surroundings, Turning, turning, moment_in, IsReadOfInput, IsAtEnd, TurnGoesOn, EndsIn, at_end, input_failed, past_limit, in_piece, LinesEndWith, all_served, stopped_at, EndsInPiece, by_line, by_stop, SessionCloses, closed, broken_off, failed_text, too_long_text, end_at}
 use Rattle.line_server.specs.Session as session
 use Rattle.line_server.specs.Session.{Turns, last_turn, one_turn, HasNoMore, CountsStand, AnsweredWhole, SessionCame, IsSessionServed, of_failed_input, of_long_input}
 use Rattle.line_server.specs.declared.ends.SessionEnd.{SessionEnd}
@@ -16,19 +16,19 @@ use Rattle.line_server.specs.declared.ends.Stop.TheVariants.{OutputFailed, NoMem
 use Rattle.line_server.proofs.Cuts.{unfinished-append}
 use Rattle.line_server.proofs.WrittenTexts.{writes_then, begins_behind}
 use Rattle.line_server.proofs.AnsweredLines.{answered_then}
-use Rattle.line_server.proofs.ServedBytes.{nothing_served, served_then, stops_then, lines_stop, lines_stop_still}
+use Rattle.line_server.proofs.ServedBytes.{nothing_served, served_then, stops_then, lines_stop, lines_stop_still, rises_from}
 
 -- so many bytes were read and served
 record Reached {State : Type 0} (machine : Machine State) (start : Surroundings State) (now : Turning State) : Type 0 where
   pub read : List ℕ
   pub count : length read ≡ now.total
   pub within : now.total ≤ input_limit
-  pub left : IsRead start.input.bytes read now.around.input.bytes
+  pub left : IsReadOfInput start.input.bytes read now.around.input.bytes
   pub input : now.around.input.faults ≡ start.input.faults
   pub served : HasServed machine [] (moment_in start) read (moment_in now.around) false
   pub line : now.line ≡ unfinished [] read
 
-nothing_read : (left : Option (List ℕ)) → IsRead left [] left
+nothing_read : (left : Option (List ℕ)) → IsReadOfInput left [] left
 nothing_read None = tt
 nothing_read (Some bytes) = (bytes, refl, refl)
 
@@ -43,8 +43,9 @@ reached_nothing machine start = record {
   line = refl;
 }
 
-read_then : (before between after : Option (List ℕ)) (bytes more : List ℕ) → IsRead before bytes between → IsRead between more after
-    → IsRead before (bytes ++ more) after
+read_then : (before between after : Option (List ℕ)) (bytes more : List ℕ) → IsReadOfInput before bytes between
+    → IsReadOfInput between more after
+    → IsReadOfInput before (bytes ++ more) after
 read_then None between after bytes more first second = tt
 read_then (Some left) between after bytes more first second =
     let next : (rest : List ℕ) × (first.0 ≡ more ++ rest) × (after ≡ Some rest) = rw first.2 at second in (
@@ -53,16 +54,16 @@ read_then (Some left) between after bytes more first second =
       next.2,
     )
 
-read_none : (before between after : Option (List ℕ)) (bytes : List ℕ) → IsRead before bytes between → IsRead between [] after
-    → IsRead before bytes after
+read_none : (before between after : Option (List ℕ)) (bytes : List ℕ) → IsReadOfInput before bytes between → IsReadOfInput between [] after
+    → IsReadOfInput before bytes after
 read_none None between after bytes first second = tt
 read_none (Some left) between after bytes first second =
     let next : (rest : List ℕ) × (first.0 ≡ rest) × (after ≡ Some rest) = rw first.2 at second in
     (next.0, first.1 ∙ ap (λ (it : List ℕ). bytes ++ it) next.1, next.2)
 
 -- nothing was left behind the bytes
-read_all : (before between after : Option (List ℕ)) (bytes : List ℕ) → IsRead before bytes between → IsAtEnd between after
-    → IsRead before bytes after × HasNoMore before after
+read_all : (before between after : Option (List ℕ)) (bytes : List ℕ) → IsReadOfInput before bytes between → IsAtEnd between after
+    → IsReadOfInput before bytes after × HasNoMore before after
 read_all None between after bytes first end = (tt, tt)
 read_all (Some left) between after bytes first end =
     let none : (first.0 ≡ []) × (after ≡ Some []) = rw first.2 at end in
@@ -84,7 +85,7 @@ reached_on machine start now next reached on = record {
 -- serving stopped at one of the lines in the bytes
 stopped : {State : Type 0} (machine : Machine State) (start after : Surroundings State) (seen : List ℕ) (why : Stop)
     → length seen ≤ input_limit
-    → IsRead start.input.bytes seen after.input.bytes → after.input.faults ≡ start.input.faults
+    → IsReadOfInput start.input.bytes seen after.input.bytes → after.input.faults ≡ start.input.faults
     → StopsAt why machine (lines_in seen) (moment_in start) (moment_in after) → IsSessionServed machine start after (end_at why)
 stopped machine start after seen OutputFailed within read counts stops =
     record { seen = seen; within = within; came = session.output_failed read stops.0 counts stops.1 }
@@ -122,12 +123,9 @@ left_there {State} machine start now after reached same =
     subst (λ (it : State). Answered machine start.state (complete [] reached.read) reached.served.text it false) (sym same)
     reached.served.answered
 
-rises_from : (before between after : ℕ) → between ≡ before → Rises between after → Rises before after
-rises_from before between after is rises = subst (λ (it : ℕ). Rises it after) is rises
-
 -- the input failed
 ends_failed : {State : Type 0} (machine : Machine State) (start : Surroundings State) (now : Turning State) (after : Surroundings State)
-    (end : SessionEnd) → Reached machine start now → IsRead now.around.input.bytes [] after.input.bytes
+    (end : SessionEnd) → Reached machine start now → IsReadOfInput now.around.input.bytes [] after.input.bytes
     → Rises now.around.input.faults after.input.faults → after.state ≡ now.around.state
     → SessionCloses failed_text InputFailed now.around.output after.output end → IsSessionServed machine start after end
 ends_failed machine start now after end reached kept rises same (closed wrote output) = record {
@@ -154,7 +152,7 @@ ends_failed machine start now after end reached kept rises same (broken_off wrot
 -- a byte past the limit was read
 ends_long : {State : Type 0} (machine : Machine State) (start : Surroundings State) (now : Turning State) (after : Surroundings State)
     (end : SessionEnd) → Reached machine start now → (byte : ℕ) → now.total ≡ input_limit
-    → IsRead now.around.input.bytes (byte ∷ []) after.input.bytes → after.input.faults ≡ now.around.input.faults
+    → IsReadOfInput now.around.input.bytes (byte ∷ []) after.input.bytes → after.input.faults ≡ now.around.input.faults
     → after.state ≡ now.around.state
     → SessionCloses too_long_text InputTooLong now.around.output after.output end → IsSessionServed machine start after end
 ends_long machine start now after end reached byte whole read counts same (closed wrote output) = record {
@@ -183,7 +181,7 @@ ends_long machine start now after end reached byte whole read counts same (broke
 -- a line ended the session, or serving stopped at one
 ends_in_piece : {State : Type 0} (machine : Machine State) (start : Surroundings State) (now : Turning State) (after : Surroundings State)
     (end : SessionEnd) → Reached machine start now → (bytes : List ℕ)
-    → IsRead now.around.input.bytes bytes after.input.bytes → now.total + length bytes ≤ input_limit
+    → IsReadOfInput now.around.input.bytes bytes after.input.bytes → now.total + length bytes ≤ input_limit
     → after.input.faults ≡ now.around.input.faults
     → EndsInPiece machine now.line bytes (moment_in now.around) (moment_in after) end → IsSessionServed machine start after end
 ends_in_piece machine start now after end reached bytes read within counts (by_line served) =

@@ -9,7 +9,7 @@ use Rattle.line_server.specs.Machine.{Machine}
 use Rattle.line_server.specs.Answered.{no_line}
 use Rattle.line_server.specs.Writing.{WritesAll, WritesBeginning}
 use Rattle.line_server.specs.Serving.{ServesLine, Moment, moment}
-use Rattle.line_server.specs.Turn.{IsRead, IsAtEnd, LinesEndWith, all_served, stopped_at}
+use Rattle.line_server.specs.Turn.{IsReadOfInput, IsAtEnd, LinesEndWith, all_served, stopped_at}
 use Rattle.line_server.specs.declared.lines.Answer.{Answer}
 use Rattle.line_server.specs.declared.ends.SessionEnd.TheVariants.{Finished, OutputFailed, NoMemory}
 use Rattle.line_server.specs.declared.ends.Stop.TheVariants as stop
@@ -19,7 +19,7 @@ use Rattle.line_server.proofs.ServedBytes.{line_served, line_failed, line_wanted
 -- ---- What was read
 
 pub is_read : (left left_after : Option (List ℕ)) (buffer : List ℕ) (count : ℕ)
-    → IfSome left (λ bytes. MovesInto bytes left_after buffer count) → IsRead left (take count buffer) left_after
+    → IfSome left (λ bytes. MovesInto bytes left_after buffer count) → IsReadOfInput left (take count buffer) left_after
 is_read None left_after buffer count moved = tt
 is_read (Some bytes) left_after buffer count moved = (
   drop count bytes,
@@ -27,7 +27,7 @@ is_read (Some bytes) left_after buffer count moved = (
   moved.rest,
 )
 
-pub none_read : (left left_after : Option (List ℕ)) → IfSome left (λ bytes. left_after ≡ Some bytes) → IsRead left [] left_after
+pub none_read : (left left_after : Option (List ℕ)) → IfSome left (λ bytes. left_after ≡ Some bytes) → IsReadOfInput left [] left_after
 none_read None left_after kept = tt
 none_read (Some bytes) left_after kept = (bytes, refl, kept)
 
@@ -90,10 +90,6 @@ pub last_wanted : {State : Type 0} (machine : Machine State) (line : List ℕ) (
 last_wanted machine line state state_after written faults some leaves =
     subst (λ (it : List (List ℕ)). LinesEndWith machine it (moment state written faults) (moment state_after written faults) NoMemory)
     (sym (one_last line some)) (stopped_at stop.NoMemory (line_wanted machine line [] state state_after written faults leaves))
-
-pub nothing_begun : (line : List ℕ) → length line ≡ 0 → line ≡ []
-nothing_begun [] none = refl
-nothing_begun (byte ∷ line) none = absurd (omega (arith, none))
 
 pub all_none : (P : ℕ → Type 0) (items : List ℕ) → items ≡ [] → All P items
 all_none P items none = λ k d below. absurd (omega (arith, ap length none, below))

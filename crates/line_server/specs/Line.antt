@@ -16,9 +16,9 @@ abbrev pub stripped : List ℕ → List ℕ
 stripped line = before_blanks (behind_blanks line)
 
 -- how many bytes stand before the first space
-abbrev pub word_length : List ℕ → ℕ
-word_length [] = 0
-word_length (byte ∷ bytes) = if nat_eq byte 32 then 0 else word_length bytes + 1
+abbrev pub length_to_space : List ℕ → ℕ
+length_to_space [] = 0
+length_to_space (byte ∷ bytes) = if nat_eq byte 32 then 0 else length_to_space bytes + 1
 
 -- without the spaces before it
 abbrev pub behind_spaces : List ℕ → List ℕ
@@ -27,7 +27,7 @@ behind_spaces (byte ∷ bytes) = if nat_eq byte 32 then behind_spaces bytes else
 
 -- the first word, and what stands behind it and the spaces
 abbrev pub first_word : List ℕ → List ℕ
-first_word line = take (word_length line) line
+first_word line = take (length_to_space line) line
 
 abbrev pub behind_word : List ℕ → List ℕ
-behind_word line = behind_spaces (drop (word_length line) line)
+behind_word line = behind_spaces (drop (length_to_space line) line)

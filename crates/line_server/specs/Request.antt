@@ -21,21 +21,21 @@ pub data Request : Type 0 where
 
 -- ---- Numbers
 
-abbrev pub leads_with_zero : List ℕ → Bool
-leads_with_zero [] = false
-leads_with_zero (digit ∷ digits) = nat_eq digit 48
+abbrev pub begins_with_zero : List ℕ → Bool
+begins_with_zero [] = false
+begins_with_zero (digit ∷ digits) = nat_eq digit 48
 
 -- one to ten decimal digits without a leading zero, or `0`
 abbrev pub has_number_form : List ℕ → Bool
 has_number_form word =
-    (nat_lt 0 (length word) && nat_lt (length word) 11) && (nat_eq (length word) 1 || not (leads_with_zero word))
+    (nat_lt 0 (length word) && nat_lt (length word) 11) && (nat_eq (length word) 1 || not (begins_with_zero word))
 
-abbrev pub is_number : List ℕ → Bool
-is_number word = list_all is_ascii_digit word && has_number_form word
+abbrev pub is_decimal_number : List ℕ → Bool
+is_decimal_number word = list_all is_ascii_digit word && has_number_form word
 
 -- the number that a word is, if it is one
-abbrev pub number_in : List ℕ → Option ℕ
-number_in word = if is_number word then Some (digits_value 10 word) else None
+abbrev pub number_in_word : List ℕ → Option ℕ
+number_in_word word = if is_decimal_number word then Some (digits_value 10 word) else None
 
 -- ---- What stands behind a word
 
@@ -50,35 +50,35 @@ step_by None terms = no_request
 step_by (Some number) terms = take_step number terms
 
 abbrev pub step_in : List ℕ → Request
-step_in rest = step_by (number_in (first_word rest)) (behind_word rest)
+step_in rest = step_by (number_in_word (first_word rest)) (behind_word rest)
 
 -- the name that bytes are, if there are some and they are UTF-8
 abbrev pub name_of : List ℕ → Option (List ℕ)
 name_of [] = None
 name_of (byte ∷ bytes) = if is_utf8 (byte ∷ bytes) then Some (byte ∷ bytes) else None
 
-abbrev pub with_name : (List ℕ → Request) → Option (List ℕ) → Request
-with_name make None = no_request
-with_name make (Some name) = make name
+abbrev pub request_with_name : (List ℕ → Request) → Option (List ℕ) → Request
+request_with_name make None = no_request
+request_with_name make (Some name) = make name
 
-abbrev pub named : (List ℕ → Request) → List ℕ → Request
-named make rest = with_name make (name_of rest)
+abbrev pub request_named : (List ℕ → Request) → List ℕ → Request
+request_named make rest = request_with_name make (name_of rest)
 
 -- the size that bytes are, from 1 to 64
-abbrev pub size_of : Option ℕ → Option ℕ
-size_of None = None
-size_of (Some number) = if nat_le 1 number && nat_le number 64 then Some number else None
+abbrev pub list_size_of : Option ℕ → Option ℕ
+list_size_of None = None
+list_size_of (Some number) = if nat_le 1 number && nat_le number 64 then Some number else None
 
 abbrev pub size_in : List ℕ → Option ℕ
-size_in bytes = size_of (number_in bytes)
+size_in bytes = list_size_of (number_in_word bytes)
 
 -- the name of a sort, which any word may be, and a size
-abbrev pub values_by : List ℕ → Option ℕ → Request
-values_by name None = no_request
-values_by name (Some size) = list_values name size
+abbrev pub values_request_by : List ℕ → Option ℕ → Request
+values_request_by name None = no_request
+values_request_by name (Some size) = list_values name size
 
-abbrev pub values_in : List ℕ → Request
-values_in rest = values_by (first_word rest) (size_in (behind_word rest))
+abbrev pub values_request : List ℕ → Request
+values_request rest = values_request_by (first_word rest) (size_in (behind_word rest))
 
 -- the number of an entry, and a size
 abbrev pub instances_up_to : ℕ → Option ℕ → Request
@@ -90,7 +90,7 @@ instances_by None size = no_request
 instances_by (Some number) size = instances_up_to number size
 
 abbrev pub instances_in : List ℕ → Request
-instances_in rest = instances_by (number_in (first_word rest)) (size_in (behind_word rest))
+instances_in rest = instances_by (number_in_word (first_word rest)) (size_in (behind_word rest))
 
 -- ---- Words
 
@@ -98,11 +98,11 @@ instances_in rest = instances_by (number_in (first_word rest)) (size_in (behind_
 abbrev pub asked_with : (word rest : List ℕ) → Request
 asked_with word rest =
     if bytes_eq word (codes "step") then step_in rest
-    else if bytes_eq word (codes "save") then named save rest
-    else if bytes_eq word (codes "replay") then named replay rest
+    else if bytes_eq word (codes "save") then request_named save rest
+    else if bytes_eq word (codes "replay") then request_named replay rest
     else if bytes_eq word (codes "normal") then show_normal rest
     else if bytes_eq word (codes "equal") then compare rest
-    else if bytes_eq word (codes "values") then values_in rest
+    else if bytes_eq word (codes "values") then values_request rest
     else if bytes_eq word (codes "instances") then instances_in rest
     else no_request
 

@@ -6,7 +6,7 @@ use Rattle.line_server.specs.Cutting.{complete, lines_in}
 use Rattle.line_server.specs.Machine.{Machine}
 use Rattle.line_server.specs.Answered.{Answered, FailedAt, WantedAt}
 use Rattle.line_server.specs.Writing.{Stream, WritesAll, WritesUpTo}
-use Rattle.line_server.specs.Turn.{Surroundings, Turning, turning, IsRead, TurnGoesOn, EndsIn, failed_text, too_long_text}
+use Rattle.line_server.specs.Turn.{Surroundings, Turning, turning, IsReadOfInput, TurnGoesOn, EndsIn, failed_text, too_long_text}
 use Rattle.line_server.specs.declared.ends.SessionEnd.{SessionEnd}
 use Rattle.line_server.specs.declared.ends.SessionEnd.TheVariants.{Finished, InputFailed, InputTooLong, OutputFailed, NoMemory}
 
@@ -35,13 +35,13 @@ AnsweredWhole machine before seen text after = Answered machine before.state (co
 -- The closing line that the output did not take whole, by what it says: the input failed, or it has a byte past the limit.
 pub data FailsToClose (seen : List ℕ) (before after : Stream) : (text : List ℕ) → Type 0 where
   of_failed_input :
-      IsRead before.bytes seen after.bytes →
+      IsReadOfInput before.bytes seen after.bytes →
       Rises before.faults after.faults →
       FailsToClose seen before after failed_text
   of_long_input :
       (byte : ℕ) →
       length seen ≡ input_limit →
-      IsRead before.bytes (seen ++ byte ∷ []) after.bytes →
+      IsReadOfInput before.bytes (seen ++ byte ∷ []) after.bytes →
       after.faults ≡ before.faults →
       FailsToClose seen before after too_long_text
 
@@ -52,7 +52,7 @@ pub data SessionCame {State : Type 0} (machine : Machine State) (before after : 
     -- all lines were answered up to the end of the input
     finished :
         (text : List ℕ) (quits : Bool) →
-        IsRead before.input.bytes seen after.input.bytes →
+        IsReadOfInput before.input.bytes seen after.input.bytes →
         HasNoMore before.input.bytes after.input.bytes →
         Answered machine before.state (lines_in seen) text after.state quits →
         WritesAll before.output.bytes after.output.bytes text →
@@ -61,14 +61,14 @@ pub data SessionCame {State : Type 0} (machine : Machine State) (before after : 
     -- a line ended the session
     quit :
         (text : List ℕ) →
-        IsRead before.input.bytes seen after.input.bytes →
+        IsReadOfInput before.input.bytes seen after.input.bytes →
         Answered machine before.state (complete [] seen) text after.state true →
         WritesAll before.output.bytes after.output.bytes text →
         CountsStand before after →
         SessionCame machine before after seen Finished
     input_failed :
         (text : List ℕ) →
-        IsRead before.input.bytes seen after.input.bytes →
+        IsReadOfInput before.input.bytes seen after.input.bytes →
         AnsweredWhole machine before seen text after →
         WritesAll before.output.bytes after.output.bytes (text ++ failed_text) →
         Rises before.input.faults after.input.faults →
@@ -77,14 +77,14 @@ pub data SessionCame {State : Type 0} (machine : Machine State) (before after : 
     too_long :
         (text : List ℕ) (byte : ℕ) →
         length seen ≡ input_limit →
-        IsRead before.input.bytes (seen ++ byte ∷ []) after.input.bytes →
+        IsReadOfInput before.input.bytes (seen ++ byte ∷ []) after.input.bytes →
         AnsweredWhole machine before seen text after →
         WritesAll before.output.bytes after.output.bytes (text ++ too_long_text) →
         CountsStand before after →
         SessionCame machine before after seen InputTooLong
     -- the output failed at an answer, or at the closing line
     output_failed :
-        IsRead before.input.bytes seen after.input.bytes →
+        IsReadOfInput before.input.bytes seen after.input.bytes →
         FailedAt machine before.state (lines_in seen) before.output.bytes after.output.bytes after.state →
         after.input.faults ≡ before.input.faults →
         Rises before.output.faults after.output.faults →
@@ -97,7 +97,7 @@ pub data SessionCame {State : Type 0} (machine : Machine State) (before after : 
         Rises before.output.faults after.output.faults →
         SessionCame machine before after seen OutputFailed
     wanted_memory :
-        IsRead before.input.bytes seen after.input.bytes →
+        IsReadOfInput before.input.bytes seen after.input.bytes →
         WantedAt machine before.state (lines_in seen) before.output.bytes after.output.bytes after.state →
         CountsStand before after →
         SessionCame machine before after seen NoMemory

@@ -34,8 +34,8 @@ abbrev pub turning : {State : Type 0} → Surroundings State → List ℕ → �
 turning around line total = record { around = around; line = line; total = total }
 
 -- these bytes were read of the input, and the others are left
-abbrev pub IsRead : Option (List ℕ) → (bytes : List ℕ) → Option (List ℕ) → Type 0
-IsRead before bytes after = IfSome before (λ left. (rest : List ℕ) × (left ≡ bytes ++ rest) × (after ≡ Some rest))
+abbrev pub IsReadOfInput : Option (List ℕ) → (bytes : List ℕ) → Option (List ℕ) → Type 0
+IsReadOfInput before bytes after = IfSome before (λ left. (rest : List ℕ) × (left ≡ bytes ++ rest) × (after ≡ Some rest))
 
 -- nothing was left of the input
 abbrev pub IsAtEnd : Option (List ℕ) → Option (List ℕ) → Type 0
@@ -52,7 +52,7 @@ too_long_text = codes "input too long\n"
 pub record TurnGoesOn {State : Type 0} (machine : Machine State) (before after : Turning State) : Type 0 where
   pub bytes : List ℕ
   pub some : bytes ≢ []
-  pub read : IsRead before.around.input.bytes bytes after.around.input.bytes
+  pub read : IsReadOfInput before.around.input.bytes bytes after.around.input.bytes
   pub counts : after.around.input.faults ≡ before.around.input.faults
   pub total : after.total ≡ before.total + length bytes
   pub within : after.total ≤ input_limit
@@ -110,7 +110,7 @@ pub data EndsIn {State : Type 0} (machine : Machine State) (before : Turning Sta
         LinesEndWith machine (last_line before.line) (moment_in before.around) (moment_in after) end →
         EndsIn machine before after end
     input_failed :
-        IsRead before.around.input.bytes [] after.input.bytes →
+        IsReadOfInput before.around.input.bytes [] after.input.bytes →
         Rises before.around.input.faults after.input.faults →
         after.state ≡ before.around.state →
         SessionCloses failed_text InputFailed before.around.output after.output end →
@@ -118,14 +118,14 @@ pub data EndsIn {State : Type 0} (machine : Machine State) (before : Turning Sta
     past_limit :
         (byte : ℕ) →
         before.total ≡ input_limit →
-        IsRead before.around.input.bytes (byte ∷ []) after.input.bytes →
+        IsReadOfInput before.around.input.bytes (byte ∷ []) after.input.bytes →
         after.input.faults ≡ before.around.input.faults →
         after.state ≡ before.around.state →
         SessionCloses too_long_text InputTooLong before.around.output after.output end →
         EndsIn machine before after end
     in_piece :
         (bytes : List ℕ) →
-        IsRead before.around.input.bytes bytes after.input.bytes →
+        IsReadOfInput before.around.input.bytes bytes after.input.bytes →
         before.total + length bytes ≤ input_limit →
         after.input.faults ≡ before.around.input.faults →
         EndsInPiece machine before.line bytes (moment_in before.around) (moment_in after) end →

@@ -8,7 +8,7 @@ ghost use Rattle.std.specs.Str.Parse.{digits_value};
 
 /// The number that the word is: one to ten decimal digits without a leading zero, or `0`.
 pub fn number_in(word: &[u8]) -> Option<u64>
-    ensures { result ≡ plain.number_in word.now }
+    ensures { result ≡ plain.number_in_word word.now }
 {
     if !are_digits(word) {
         return None;
@@ -34,7 +34,7 @@ pub fn size_in(word: &[u8]) -> Option<u32>
 
 // The number, if it is from 1 to 64.
 fn size_of(number: u64) -> Option<u32>
-    ensures { result ≡ plain.size_of (Some number) }
+    ensures { result ≡ plain.list_size_of (Some number) }
 {
     if number < 1 {
         return None;
@@ -69,7 +69,7 @@ fn has_number_form(word: &[u8]) -> bool
 }
 
 // The number that the digits write.
-#[tactic(auto, using(crate::proofs::NumberLemmas::digit_read, lotos_base::proofs::Digits::fits_ten, lotos_base::proofs::Digits::one_digit_more))]
+#[tactic(auto, using(crate::proofs::NumberLemmas::digit_read, crate::proofs::NumberLemmas::fits_ten, lotos_base::proofs::Digits::one_digit_more))]
 fn value_of(digits: &[u8]) -> u64
     requires digits { list_all is_ascii_digit digits.now ≡ true }
     requires short { length digits.now < 11 }

@@ -5,15 +5,15 @@ ghost use Rattle.line_server.specs.Request.{
   instances_in,
   instances_up_to,
   name_of,
-  named,
+  request_named,
   only,
   replay,
   request_of,
   requested_by,
   save,
   step_in,
-  values_by,
-  values_in,
+  values_request_by,
+  values_request,
 };
 ghost use Rattle.line_server.specs.RequestView.{wants};
 ghost use Rattle.std.specs.Prelude.{◌≡◌, option_map};
@@ -168,7 +168,7 @@ fn step(rest: &[u8]) -> Request<'_>
 
 // The values of the sort that a word names, up to a size.
 fn values(rest: &[u8]) -> Request<'_>
-    ensures { wants result ≡ values_in rest.now }
+    ensures { wants result ≡ values_request rest.now }
 {
     let count = first_word_length(rest);
     let size = size_in(without_spaces(&rest[count..]));
@@ -177,7 +177,7 @@ fn values(rest: &[u8]) -> Request<'_>
 
 // The values of the sort with this name, if there is a size.
 fn values_up_to(name: &[u8], size: Option<u32>) -> Request<'_>
-    ensures { wants result ≡ values_by name.now size }
+    ensures { wants result ≡ values_request_by name.now size }
 {
     match size {
         None => Request::Unknown,
@@ -208,7 +208,7 @@ fn instances_of<'a>(number: u64, size: Option<u32>) -> Request<'a>
 
 // The text to save under a name.
 fn saved(name: &[u8]) -> Request<'_>
-    ensures { wants result ≡ named save name.now }
+    ensures { wants result ≡ request_named save name.now }
 {
     match name_in(name) {
         None => Request::Unknown,
@@ -218,7 +218,7 @@ fn saved(name: &[u8]) -> Request<'_>
 
 // The text to replay under a name.
 fn replayed(name: &[u8]) -> Request<'_>
-    ensures { wants result ≡ named replay name.now }
+    ensures { wants result ≡ request_named replay name.now }
 {
     match name_in(name) {
         None => Request::Unknown,

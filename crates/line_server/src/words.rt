@@ -5,7 +5,7 @@ ghost use Rattle.line_server.specs.Line.{
   behind_blanks,
   behind_spaces,
   stripped,
-  word_length,
+  length_to_space,
 };
 ghost use Rattle.std.specs.Prelude.{◌≡◌, ◌≤◌, length};
 ghost use Rattle.lotos_lexer.specs.Bytes.{is_blank};
@@ -52,7 +52,7 @@ fn blank(byte: u8) -> bool
 
 // How many bytes stand before the first space.
 pub(crate) fn first_word_length(line: &[u8]) -> usize
-    ensures counted { result ≡ word_length line.now }
+    ensures counted { result ≡ length_to_space line.now }
     ensures within { result ≤ length line.now }
 {
     let mut count = 0;

@@ -5,7 +5,7 @@ use Rattle.std.proofs.lemmas.Option.{option_and_then_some}
 use Rattle.ll_engine.specs.declared.symbol.Symbol.{Symbol}
 use Rattle.ll_engine.specs.declared.symbol.Symbol.TheVariants.{Token, Part}
 use Rattle.ll_engine.specs.Derivation.{Production, Forest, empty, leaf, node, DerivesSymbols, leaves}
-use Rattle.ll_engine.specs.Fold.{begins_kept, first_if, tree_begins_kept, in_front, folded}
+use Rattle.ll_engine.specs.Fold.{begins_kept, first_if, tree_begins_kept, in_front, folded_trees}
 use Rattle.ll_engine.specs.Run.{count_parts, Work, work, rest_if, step, step_of, run, kept_tokens}
 
 -- lists
@@ -73,7 +73,7 @@ module _ {T A : Type 0} (value_of : ℕ → Option T → List A → Option A) (k
   -- one value for each part
   pub length_folded : (rows : List Production) (trees : Forest) (symbols : List Symbol) (own : List T) (values : List A)
       → DerivesSymbols rows trees symbols →
-      folded value_of keeps trees own ≡ Some values → length values ≡ count_parts symbols
+      folded_trees value_of keeps trees own ≡ Some values → length values ≡ count_parts symbols
   length_folded rows empty [] own values d e = let same : [] ≡ values = cc in ap length (sym same)
   length_folded rows empty (symbol ∷ symbols) own values d e = absurd d
   length_folded rows (leaf t rest) [] own values d e = absurd d
@@ -83,9 +83,9 @@ module _ {T A : Type 0} (value_of : ℕ → Option T → List A → Option A) (k
   length_folded rows (node r below rest) (Token u ∷ symbols) own values d e = absurd d
   length_folded rows (node r below rest) (Part p ∷ symbols) own values d e =
       let mine = take (length (leaves below)) own in
-      let value = option_and_then (value_of r (first_if (tree_begins_kept keeps below) mine)) (folded value_of keeps below mine) in
+      let value = option_and_then (value_of r (first_if (tree_begins_kept keeps below) mine)) (folded_trees value_of keeps below mine) in
       option_and_then_some (λ after. option_and_then (λ first. Some (first ∷ after)) value)
-      (folded value_of keeps rest (drop (length (leaves below)) own)) values e
+      (folded_trees value_of keeps rest (drop (length (leaves below)) own)) values e
       (λ after after_is e2.
       option_and_then_some (λ first. Some (first ∷ after)) value values e2
       (λ first first_is e3.

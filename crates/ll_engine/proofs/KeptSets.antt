@@ -9,7 +9,7 @@ use Rattle.ll_engine.specs.declared.symbol.Symbol.TheVariants.{Token, Part}
 use Rattle.ll_engine.specs.Derivation.{Production, Forest, empty, leaf, node, DerivesSymbols, leaves}
 use Rattle.ll_engine.specs.Language.{ContextFree}
 use Rattle.ll_engine.specs.Prediction.{IsPredictedBy, MayFollow, ends, before, behind, RewritesSymbols, RewritesInSteps, one, more, IsPredictive}
-use Rattle.ll_engine.specs.PredictionSets.{Sets, has, within, apart, all_nullable, first_of, predicting, keeps_nullable, keeps_first, keeps_follow, falls, keeps, is_apart_from, all_apart, has_left, right_of, derives_by, all_below, Kept, PartSets, sets_of, tree_of, known_after, are_kept, is_predictive_after}
+use Rattle.ll_engine.specs.PredictionSets.{Sets, has, within, apart, all_nullable, first_tokens_of, predicting, keeps_nullable, keeps_first, keeps_follow, falls, keeps, is_apart_from, all_apart, has_left, right_of, derives_by, passes_below, ChecksHold, PartSets, sets_of, tree_of, known_after, are_kept, is_predictive_after}
 
 -- membership
 pub all_has : (test : ℕ → Bool) (list : List ℕ) (t : ℕ) → list_all test list ≡ true → has list t ≡ true → test t ≡ true
@@ -44,10 +44,10 @@ implies : (a b : Bool) → (a ≡ true → b ≡ true) → (not a || b) ≡ true
 implies true b h = h refl
 implies false b h = refl
 
-below-at : (test : ℕ → Bool) (n k : ℕ) → all_below test n ≡ true → k < n → test k ≡ true
+below-at : (test : ℕ → Bool) (n k : ℕ) → passes_below test n ≡ true → k < n → test k ≡ true
 below-at test zero k all within = absurd (omega arith)
 below-at test (suc n) k all within =
-    let parts = and_parts (all_below test n) (test n) all in
+    let parts = and_parts (passes_below test n) (test n) all in
     elim (cases_eq k n) [
       | inl same ↦ ap test same ∙ parts.1
       | inr other ↦ below-at test n k parts.0 (omega (arith, other))
@@ -87,7 +87,7 @@ derives_from rows (node r below rest) (Part p ∷ symbols) h =
 
 record RowKeeps (sets : Sets) (row : Production) : Type 0 where
   when_nullable : all_nullable sets row.right ≡ true → sets.nullable row.left ≡ true
-  first_in : (t : ℕ) → has (first_of sets row.right) t ≡ true → has (sets.first row.left) t ≡ true
+  first_in : (t : ℕ) → has (first_tokens_of sets row.right) t ≡ true → has (sets.first row.left) t ≡ true
   follow_kept : keeps_follow sets row.left row.right ≡ true
   falling : falls sets (sets.rank row.left) row.right ≡ true
 
@@ -101,7 +101,7 @@ row_keeps rows sets all r row is =
     let rest = and_parts (keeps_follow sets row.left row.right) (falls sets (sets.rank row.left) row.right) halves.1 in
     record {
       when_nullable = implied (all_nullable sets row.right) (sets.nullable row.left) sets_kept.0;
-      first_in = λ t. all_has (has (sets.first row.left)) (first_of sets row.right) t sets_kept.1;
+      first_in = λ t. all_has (has (sets.first row.left)) (first_tokens_of sets row.right) t sets_kept.1;
       follow_kept = rest.0;
       falling = rest.1;
     }
@@ -127,7 +127,7 @@ cases_list (n ∷ ns) none some = some n ns refl
 
 first_sound : (rows : List Production) (sets : Sets) → list_all (keeps sets) rows ≡ true
     → (trees : Forest) (symbols : List Symbol) (t : ℕ) (others : List ℕ) →
-    DerivesSymbols rows trees symbols → leaves trees ≡ t ∷ others → has (first_of sets symbols) t ≡ true
+    DerivesSymbols rows trees symbols → leaves trees ≡ t ∷ others → has (first_tokens_of sets symbols) t ≡ true
 first_sound rows sets all empty symbols t others d e = absurd (cc)
 first_sound rows sets all (leaf k rest) [] t others d e = absurd d
 first_sound rows sets all (leaf k rest) (Token u ∷ symbols) t others d e =
@@ -143,35 +143,39 @@ first_sound rows sets all (node r below rest) (Part p ∷ symbols) t others d e 
     let passes : sets.nullable p ≡ true = ap sets.nullable (sym d.2)
     ∙ row.when_nullable (nullable_sound rows sets all below d.0.right d.3 none) in
     let behind = first_sound rows sets all rest symbols t others d.4 (sym (ap (λ (ks : List ℕ). ks ++ leaves rest) none) ∙ e) in
-    has-right (sets.first p) (cond (sets.nullable p) (first_of sets symbols) []) t
-    (ap (λ (test : Bool). has (cond test (first_of sets symbols) []) t) passes ∙ behind))
+    has-right (sets.first p) (cond (sets.nullable p) (first_tokens_of sets symbols) []) t
+    (ap (λ (test : Bool). has (cond test (first_tokens_of sets symbols) []) t) passes ∙ behind))
     (λ n ns some.
     let both : n ∷ (ns ++ leaves rest) ≡ t ∷ others = sym (ap (λ (ks : List ℕ). ks ++ leaves rest) some) ∙ e in
     let here : n ≡ t = cc in
     let inner = first_sound rows sets all below d.0.right t ns d.3 (some ∙ ap (λ (k : ℕ). k ∷ ns) here) in
-    has-left (sets.first p) (cond (sets.nullable p) (first_of sets symbols) []) t
+    has-left (sets.first p) (cond (sets.nullable p) (first_tokens_of sets symbols) []) t
     (ap (λ (left : ℕ). has (sets.first left) t) (sym d.2) ∙ row.first_in t inner))
 
 -- what may follow
 follow_at : (sets : Sets) (left p : ℕ) (front back : List Symbol) → keeps_follow sets left (front ++ Part p ∷ back) ≡ true →
-    (within (first_of sets back) (sets.follow p) && (not (all_nullable sets back) || within (sets.follow left) (sets.follow p))) ≡ true
+    (within (first_tokens_of sets back) (sets.follow p) && (not (all_nullable sets back) || within (sets.follow left) (sets.follow p)))
+    ≡ true
 follow_at sets left p [] back kept =
-    (and_parts (within (first_of sets back) (sets.follow p) && (not (all_nullable sets back) || within (sets.follow left) (sets.follow p)))
+    (and_parts (within (first_tokens_of sets back) (sets.follow p)
+    && (not (all_nullable sets back) || within (sets.follow left) (sets.follow p)))
     (keeps_follow sets left back) kept).0
 follow_at sets left p (Token t ∷ front) back kept = follow_at sets left p front back kept
 follow_at sets left p (Part q ∷ front) back kept =
     let symbols = front ++ Part p ∷ back in
     follow_at sets left p front back
-    (and_parts (within (first_of sets symbols) (sets.follow q)
+    (and_parts (within (first_tokens_of sets symbols) (sets.follow q)
     && (not (all_nullable sets symbols) || within (sets.follow left) (sets.follow q))) (keeps_follow sets left symbols) kept).1
 
 follow_here : (rows : List Production) (sets : Sets) → list_all (keeps sets) rows ≡ true
     → (number : ℕ) (row : Production) (front back : List Symbol) (p : ℕ) →
     slice_get rows number ≡ Some row → row.right ≡ front ++ Part p ∷ back →
-    (within (first_of sets back) (sets.follow p) ≡ true) × ((not (all_nullable sets back) || within (sets.follow row.left) (sets.follow p))
+    (within (first_tokens_of sets back) (sets.follow p) ≡ true)
+    × ((not (all_nullable sets back) || within (sets.follow row.left) (sets.follow p))
     ≡ true)
 follow_here rows sets all number row front back p is split =
-    and_parts (within (first_of sets back) (sets.follow p)) (not (all_nullable sets back) || within (sets.follow row.left) (sets.follow p))
+    and_parts (within (first_tokens_of sets back) (sets.follow p))
+    (not (all_nullable sets back) || within (sets.follow row.left) (sets.follow p))
     (follow_at sets row.left p front back (ap (keeps_follow sets row.left) (sym split)
     ∙ (row_keeps rows sets all number row is).follow_kept))
 
@@ -180,7 +184,7 @@ follow_sound : (g : ContextFree) (sets : Sets) → list_all (keeps sets) g.rows 
 follow_sound g sets all end ends = end
 follow_sound g sets all end (before number row front back part token is split begins) =
     let kept = follow_here g.rows sets all number row front back part is split in
-    all_has (has (sets.follow part)) (first_of sets back) token kept.0
+    all_has (has (sets.follow part)) (first_tokens_of sets back) token kept.0
     (first_sound g.rows sets all begins.0 back token begins.1 begins.2 begins.3)
 follow_sound g sets all end (behind number row front back part token is split empties follows) =
     let kept = follow_here g.rows sets all number row front back part is split in
@@ -192,12 +196,12 @@ follow_sound g sets all end (behind number row front back part token is split em
 pub predicted_sound : (g : ContextFree) (sets : Sets) → list_all (keeps sets) g.rows ≡ true → has (sets.follow g.start) g.tokens ≡ true →
     (row : Production) (token : ℕ) → IsPredictedBy g row token → has (predicting sets row) token ≡ true
 predicted_sound g sets all end row token (inl begins) =
-    has-left (first_of sets row.right) (cond (all_nullable sets row.right) (sets.follow row.left) []) token
+    has-left (first_tokens_of sets row.right) (cond (all_nullable sets row.right) (sets.follow row.left) []) token
     (first_sound g.rows sets all begins.0 row.right token begins.1 begins.2 begins.3)
 predicted_sound g sets all end row token (inr behind_it) =
     let empties = behind_it.0 in
     let passes = nullable_sound g.rows sets all empties.0 row.right empties.1 empties.2 in
-    has-right (first_of sets row.right) (cond (all_nullable sets row.right) (sets.follow row.left) []) token
+    has-right (first_tokens_of sets row.right) (cond (all_nullable sets row.right) (sets.follow row.left) []) token
     (ap (λ (test : Bool). has (cond test (sets.follow row.left) []) token) passes ∙ follow_sound g sets all end behind_it.1)
 
 -- no conflict
@@ -305,7 +309,7 @@ no_cycle rows sets all part back steps =
     (and_parts (nat_lt (sets.rank part) (sets.rank part)) (not (sets.nullable part) || falls sets (sets.rank part) back) falling).0 in
     omega arith
 
-pub predictive : (g : ContextFree) (sets : Sets) (tree : ℕ → Forest) → Kept g sets tree → IsPredictive g
+pub predictive : (g : ContextFree) (sets : Sets) (tree : ℕ → Forest) → ChecksHold g sets tree → IsPredictive g
 predictive g sets tree kept = record {
   productive = λ part below. (
     tree part,
@@ -322,9 +326,9 @@ predictive g sets tree kept = record {
       (predicted_sound g sets kept.rows_keep kept.end_follows it.second_row token it.second_predicted);
 }
 
-pub kept_of : (g : ContextFree) (table : List PartSets) → are_kept g table ≡ true → Kept g (sets_of table) (tree_of table)
+pub kept_of : (g : ContextFree) (table : List PartSets) → are_kept g table ≡ true → ChecksHold g (sets_of table) (tree_of table)
 kept_of g table all =
-    let derived = all_below (λ (part : ℕ). derives_by g.rows (tree_of table part) (Part part ∷ [])) g.parts in
+    let derived = passes_below (λ (part : ℕ). derives_by g.rows (tree_of table part) (Part part ∷ [])) g.parts in
     let halves = and_parts (list_all (keeps (sets_of table)) g.rows && has ((sets_of table).follow g.start) g.tokens)
     (all_apart (sets_of table) g.rows && derived) all in
     let rows = and_parts (list_all (keeps (sets_of table)) g.rows) (has ((sets_of table).follow g.start) g.tokens) halves.0 in

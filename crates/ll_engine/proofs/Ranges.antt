@@ -55,11 +55,6 @@ start-below g h =
     let rest = (and_parts (list_all (is_row_in_range g.parts g.tokens) g.rows) (nat_lt g.start g.parts && nat_lt g.tokens 65535) h).1 in
     ltb-true g.start g.parts (and_parts (nat_lt g.start g.parts) (nat_lt g.tokens 65535) rest).0
 
-pub tokens-below : (g : ContextFree) → is_well_formed g ≡ true → g.tokens < 65535
-tokens-below g h =
-    let rest = (and_parts (list_all (is_row_in_range g.parts g.tokens) g.rows) (nat_lt g.start g.parts && nat_lt g.tokens 65535) h).1 in
-    ltb-true g.tokens 65535 (and_parts (nat_lt g.start g.parts) (nat_lt g.tokens 65535) rest).1
-
 -- the tokens that are derived are in range
 abbrev pub AreTokens : ℕ → List ℕ → Type 0
 AreTokens tokens list = list_all (λ (t : ℕ). nat_lt t tokens) list ≡ true

@@ -9,7 +9,7 @@ use Rattle.lotos_base.proofs.Tests.{list_all-at}
 use Rattle.ll_engine.specs.declared.symbol.Symbol.{Symbol}
 use Rattle.ll_engine.specs.declared.symbol.Symbol.TheVariants.{Token, Part}
 use Rattle.ll_engine.specs.Derivation.{Production, Forest, empty, leaf, node, DerivesSymbols, leaves, leftmost}
-use Rattle.ll_engine.specs.Fold.{is_dropped, kept_in_front, begins_kept, first_if, tree_begins_kept, in_front, folded, first_value, value_of_tree}
+use Rattle.ll_engine.specs.Fold.{is_dropped, kept_in_front, begins_kept, first_if, tree_begins_kept, in_front, folded_trees, first_value, value_of_tree}
 use Rattle.ll_engine.specs.Run.{count_parts, Work, work, rest_if, step_of, run, kept_tokens, from_last}
 use Rattle.ll_engine.proofs.Folding.{append_parts, Halves, halves, no_tokens, kept_one, kept_none, and_then_same, and_then_twice, length_folded, run-append, with_values, step-values, in_front-work}
 
@@ -18,7 +18,7 @@ module _ {T A : Type 0} (value_of : ℕ → Option T → List A → Option A) (k
   kept own = kept_tokens kind keeps own
 
   abbrev values_in : Forest → List T → Option (List A)
-  values_in = folded value_of keeps
+  values_in = folded_trees value_of keeps
 
   abbrev runs : List ℕ → Work T A → Option (Work T A)
   runs = run value_of keeps rows

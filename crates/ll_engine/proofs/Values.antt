@@ -6,8 +6,8 @@ use Rattle.std.proofs.lemmas.Option.{option_and_then_some}
 use Rattle.ll_engine.specs.declared.symbol.Symbol.{Symbol}
 use Rattle.ll_engine.specs.declared.symbol.Symbol.TheVariants.{Token, Part}
 use Rattle.ll_engine.specs.Derivation.{Production, Forest, empty, leaf, node, DerivesSymbols, leaves}
-use Rattle.ll_engine.specs.Fold.{begins_kept, first_if, tree_begins_kept, in_front, folded}
-use Rattle.ll_engine.specs.Values.{StandForTokens, nothing, token, part, IsKept, HasValue}
+use Rattle.ll_engine.specs.Fold.{begins_kept, first_if, tree_begins_kept, in_front, folded_trees}
+use Rattle.ll_engine.specs.Values.{StandForTokens, nothing, token, part, KeepsValues, HasValue}
 use Rattle.ll_engine.proofs.Folding.{append_parts, halves, no_tokens}
 
 -- a right side and its trees begin alike
@@ -23,10 +23,10 @@ begin_alike keeps rows (node r below rest) (Token u ∷ symbols) d = absurd d
 begin_alike keeps rows (node r below rest) (Part p ∷ symbols) d = refl
 
 module _ {T A : Type 0} (value_of : ℕ → Option T → List A → Option A) (keeps : ℕ → Bool) (kind : T → ℕ) (rows : List Production) where
-  module _ (has : ℕ → List T → A → Type 0) (kept : IsKept value_of keeps kind rows has) where
+  module _ (has : ℕ → List T → A → Type 0) (kept : KeepsValues value_of keeps kind rows has) where
     stand_leaf : (t u : ℕ) (rest : Forest) (symbols : List Symbol) (own : List T) (values : List A) → t ≡ u
-        → t ∷ leaves rest ≡ map kind own → folded value_of keeps rest (drop 1 own) ≡ Some values →
-        ((mine : List T) → leaves rest ≡ map kind mine → folded value_of keeps rest mine ≡ Some values
+        → t ∷ leaves rest ≡ map kind own → folded_trees value_of keeps rest (drop 1 own) ≡ Some values →
+        ((mine : List T) → leaves rest ≡ map kind mine → folded_trees value_of keeps rest mine ≡ Some values
         → StandForTokens kind has symbols mine values) → StandForTokens kind has (Token u ∷ symbols) own values
     stand_leaf t u rest symbols [] values same e folds others = absurd (cc)
     stand_leaf t u rest symbols (first ∷ mine) values same e folds others =
@@ -36,7 +36,7 @@ module _ {T A : Type 0} (value_of : ℕ → Option T → List A → Option A) (k
 
     -- the trees of symbols stand for their tokens
     stand : (trees : Forest) (symbols : List Symbol) (own : List T) (values : List A) → DerivesSymbols rows trees symbols
-        → leaves trees ≡ map kind own → folded value_of keeps trees own ≡ Some values →
+        → leaves trees ≡ map kind own → folded_trees value_of keeps trees own ≡ Some values →
         StandForTokens kind has symbols own values
     stand empty [] own values d e folds =
         let none : own ≡ [] = no_tokens kind own e in
@@ -54,18 +54,18 @@ module _ {T A : Type 0} (value_of : ℕ → Option T → List A → Option A) (k
         let len : length h.front ≡ length (leaves below) = sym (length-map h.front kind) ∙ sym (ap length h.front_are) in
         let parts = append_parts h.front h.back own (length (leaves below)) len h.both in
         let own_value = λ (l : List T). option_and_then (value_of r (first_if (tree_begins_kept keeps below) l))
-        (folded value_of keeps below l) in
-        let folds_split : in_front (own_value h.front) (folded value_of keeps rest h.back) ≡ Some values =
-        ap (λ (l : List T). in_front (own_value l) (folded value_of keeps rest h.back)) (sym parts.0)
-        ∙ ap (λ (l : List T). in_front (own_value (take (length (leaves below)) own)) (folded value_of keeps rest l)) (sym parts.1)
+        (folded_trees value_of keeps below l) in
+        let folds_split : in_front (own_value h.front) (folded_trees value_of keeps rest h.back) ≡ Some values =
+        ap (λ (l : List T). in_front (own_value l) (folded_trees value_of keeps rest h.back)) (sym parts.0)
+        ∙ ap (λ (l : List T). in_front (own_value (take (length (leaves below)) own)) (folded_trees value_of keeps rest l)) (sym parts.1)
         ∙ folds in
         option_and_then_some (λ after. option_and_then (λ first. Some (first ∷ after)) (own_value h.front))
-        (folded value_of keeps rest h.back) values folds_split
+        (folded_trees value_of keeps rest h.back) values folds_split
         (λ after after_is e2.
         option_and_then_some (λ first. Some (first ∷ after)) (own_value h.front) values e2
         (λ first first_is e3.
         option_and_then_some (value_of r (first_if (tree_begins_kept keeps below) h.front))
-        (folded value_of keeps below h.front) first first_is
+        (folded_trees value_of keeps below h.front) first first_is
         (λ inner inner_is value_is.
         let same : first ∷ after ≡ values = cc in
         let inner_stand = stand below d.0.right h.front inner d.3 h.front_are inner_is in
@@ -90,27 +90,28 @@ module _ {T A : Type 0} (value_of : ℕ → Option T → List A → Option A) (k
     trees : Forest
     derives : DerivesSymbols rows trees symbols
     leaves_are : leaves trees ≡ map kind own
-    folds : folded value_of keeps trees own ≡ Some values
+    folds : folded_trees value_of keeps trees own ≡ Some values
 
   -- a tree in front of others
   tree_in_front : (r p : ℕ) (row : Production) (below rest : Forest) (mine own : List T) (symbols : List Symbol) (value : A)
       (values : List A) → slice_get rows r ≡ Some row → row.left ≡ p →
       DerivesSymbols rows below row.right → leaves below ≡ map kind mine → option_and_then
-      (value_of r (first_if (tree_begins_kept keeps below) mine)) (folded value_of keeps below mine) ≡ Some value →
-      DerivesSymbols rows rest symbols → leaves rest ≡ map kind own → folded value_of keeps rest own ≡ Some values
+      (value_of r (first_if (tree_begins_kept keeps below) mine)) (folded_trees value_of keeps below mine) ≡ Some value →
+      DerivesSymbols rows rest symbols → leaves rest ≡ map kind own → folded_trees value_of keeps rest own ≡ Some values
       → Trees (Part p ∷ symbols) (mine ++ own) (value ∷ values)
   tree_in_front r p row below rest mine own symbols value values is left d below_leaves value_is rest_d rest_leaves rest_folds =
       let len : length mine ≡ length (leaves below) = sym (length-map mine kind) ∙ sym (ap length below_leaves) in
       let parts = append_parts mine own (mine ++ own) (length (leaves below)) len refl in
       let own_value = λ (l : List T). option_and_then (value_of r (first_if (tree_begins_kept keeps below) l))
-      (folded value_of keeps below l) in
+      (folded_trees value_of keeps below l) in
       record {
         trees = node r below rest;
         derives = (row, is, left, d, rest_d);
         leaves_are = ap (λ l. l ++ leaves rest) below_leaves ∙ ap (λ l. map kind mine ++ l) rest_leaves ∙ sym (map-append kind mine own);
         folds =
-            ap (λ (l : List T). in_front (own_value l) (folded value_of keeps rest (drop (length (leaves below)) (mine ++ own)))) parts.0
-            ∙ ap (λ (l : List T). in_front (own_value mine) (folded value_of keeps rest l)) parts.1
+            ap (λ (l : List T). in_front (own_value l) (folded_trees value_of keeps rest (drop (length (leaves below)) (mine ++ own))))
+            parts.0
+            ∙ ap (λ (l : List T). in_front (own_value mine) (folded_trees value_of keeps rest l)) parts.1
             ∙ ap (in_front (own_value mine)) rest_folds
             ∙ ap (λ (o : Option A). in_front o (Some values)) value_is;
       }
@@ -121,7 +122,7 @@ module _ {T A : Type 0} (value_of : ℕ → Option T → List A → Option A) (k
   part_in_front p symbols mine own value values it others = by_tree it.0 it.1 it.2 it.3
     where
       by_tree : (tree : Forest) → DerivesSymbols rows tree (Part p ∷ []) → leaves tree ≡ map kind mine
-          → folded value_of keeps tree mine ≡ Some (value ∷ []) →
+          → folded_trees value_of keeps tree mine ≡ Some (value ∷ []) →
           Trees (Part p ∷ symbols) (mine ++ own) (value ∷ values)
       by_tree empty d e folds = absurd d
       by_tree (leaf t rest) d e folds = absurd d
@@ -130,7 +131,7 @@ module _ {T A : Type 0} (value_of : ℕ → Option T → List A → Option A) (k
           ∙ ap length (append-nil (leaves below)) in
           let parts = append_parts mine [] mine (length (leaves below)) len (sym (append-nil mine)) in
           let own_value = λ (l : List T). option_and_then (value_of r (first_if (tree_begins_kept keeps below) l))
-          (folded value_of keeps below l) in
+          (folded_trees value_of keeps below l) in
           let folds_all : in_front (own_value mine) (Some []) ≡ Some (value ∷ []) =
           ap (λ (l : List T). in_front (own_value l) (Some [])) (sym parts.0) ∙ folds in
           option_and_then_some (λ first. Some (first ∷ [])) (own_value mine) (value ∷ []) folds_all
@@ -158,11 +159,11 @@ module _ {T A : Type 0} (value_of : ℕ → Option T → List A → Option A) (k
   trees_of (Part p ∷ symbols) _ _ (part {own = mine} {tokens = own} {value = value} {values = values} here others) =
       part_in_front p symbols mine own value values here (trees_of symbols own values others)
 
-  pub closed : IsKept value_of keeps kind rows (HasValue value_of keeps kind rows)
+  pub closed : KeepsValues value_of keeps kind rows (HasValue value_of keeps kind rows)
   closed number row tokens values value is stands given =
       let it = trees_of row.right tokens values stands in
       let value_is : option_and_then (value_of number (first_if (tree_begins_kept keeps it.trees) tokens))
-      (folded value_of keeps it.trees tokens) ≡ Some value =
+      (folded_trees value_of keeps it.trees tokens) ≡ Some value =
       ap (option_and_then (value_of number (first_if (tree_begins_kept keeps it.trees) tokens))) it.folds
       ∙ ap (λ (test : Bool). value_of number (first_if test tokens) values) (begin_alike keeps rows it.trees row.right it.derives)
       ∙ given in
@@ -171,5 +172,5 @@ module _ {T A : Type 0} (value_of : ℕ → Option T → List A → Option A) (k
         whole.trees,
         whole.derives,
         whole.leaves_are ∙ ap (map kind) (append-nil tokens),
-        ap (folded value_of keeps whole.trees) (sym (append-nil tokens)) ∙ whole.folds,
+        ap (folded_trees value_of keeps whole.trees) (sym (append-nil tokens)) ∙ whole.folds,
       )

@@ -10,30 +10,30 @@ use Rattle.ll_engine.specs.Derivation.{Production}
 use Rattle.ll_engine.specs.Language.{ContextFree}
 use Rattle.ll_engine.specs.PredictionSets.{Sets, has, predicting, PartSets, sets_of, tree_of, are_kept, known_after}
 use Rattle.ll_engine.specs.View.{is_well_formed}
-use Rattle.ll_engine.specs.WrittenTable.{written_grammar, row_among, first_row, row_at, IsTableWritten, is_number, names_rows, is_kept_and_named, is_sized, is_written_after}
+use Rattle.ll_engine.specs.WrittenTable.{written_grammar, row_among, first_row, row_at, IsTableWritten, is_found_number, names_its_rows, is_kept_and_named, is_sized, is_written_after}
 use Rattle.ll_engine.proofs.KeptSets.{all_has, predicted_sound, predictive, kept_of}
 
-number_is : (number : ℕ) (found : Option ℕ) → is_number number found ≡ true → found ≡ Some number
+number_is : (number : ℕ) (found : Option ℕ) → is_found_number number found ≡ true → found ≡ Some number
 number_is number None is = absurd (cc)
 number_is number (Some n) is = ap Some (eqb-true n number is)
 
 -- the row with this number is named for each token that its sets say predict it
 named_at : (table : WrittenTable) (sets : Sets) (rows : List Production) (first number : ℕ) (row : Production) (token : ℕ) →
-    names_rows table sets first rows ≡ true → slice_get rows number ≡ Some row → has (predicting sets row) token ≡ true →
+    names_its_rows table sets first rows ≡ true → slice_get rows number ≡ Some row → has (predicting sets row) token ≡ true →
     row_at table row.left token ≡ Some (first + number)
 named_at table sets [] first number row token names is predicted = absurd (cc)
 named_at table sets (other ∷ rows) first zero row token names is predicted =
     let same : other ≡ row = cc in
-    let test = λ (r : Production) (t : ℕ). is_number first
+    let test = λ (r : Production) (t : ℕ). is_found_number first
     (row_among (drop (first_row table r.left) table.rows.now) (first_row table r.left) r.left t) in
-    let here = (and_parts (list_all (test other) (predicting sets other)) (names_rows table sets (first + 1) rows) names).0 in
+    let here = (and_parts (list_all (test other) (predicting sets other)) (names_its_rows table sets (first + 1) rows) names).0 in
     let passes = all_has (test row) (predicting sets row) token
     (subst (λ (r : Production). list_all (test r) (predicting sets r) ≡ true) same here) predicted in
     number_is first (row_at table row.left token) passes ∙ ap Some (omega arith)
 named_at table sets (other ∷ rows) first (suc number) row token names is predicted =
-    let test = λ (r : Production) (t : ℕ). is_number first
+    let test = λ (r : Production) (t : ℕ). is_found_number first
     (row_among (drop (first_row table r.left) table.rows.now) (first_row table r.left) r.left t) in
-    let rest = (and_parts (list_all (test other) (predicting sets other)) (names_rows table sets (first + 1) rows) names).1 in
+    let rest = (and_parts (list_all (test other) (predicting sets other)) (names_its_rows table sets (first + 1) rows) names).1 in
     named_at table sets rows (first + 1) number row token rest is predicted ∙ ap Some (omega arith)
 
 written_by : (table : WrittenTable) (g : ContextFree) (known : List PartSets) → g.parts ≡ length table.first_rows.now
@@ -47,7 +47,7 @@ written_by table g known parts_are tokens_are well_formed sized kept_and_named =
     let sizes = and_parts (few_tokens && (few_rows && few_parts)) firsts sized in
     let numbers = and_parts few_tokens (few_rows && few_parts) sizes.0 in
     let few = and_parts few_rows few_parts numbers.1 in
-    let both = and_parts (are_kept g known) (names_rows table (sets_of known) 0 g.rows) kept_and_named in
+    let both = and_parts (are_kept g known) (names_its_rows table (sets_of known) 0 g.rows) kept_and_named in
     let kept = kept_of g known both.0 in
     record {
       well_formed = well_formed;

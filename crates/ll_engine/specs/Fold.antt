@@ -41,18 +41,18 @@ abbrev pub in_front : {A : Type 0} → Option A → Option (List A) → Option (
 in_front value others = option_and_then (λ after. option_and_then (λ first. Some (first ∷ after)) value) others
 
 -- the values of the trees' parts; these tokens are their leaves
-abbrev pub folded : {T A : Type 0} → (ℕ → Option T → List A → Option A) → (ℕ → Bool) → Forest → List T → Option (List A)
-folded value_of keeps empty tokens = Some []
-folded value_of keeps (leaf t rest) tokens = folded value_of keeps rest (drop 1 tokens)
-folded value_of keeps (node r below rest) tokens =
+abbrev pub folded_trees : {T A : Type 0} → (ℕ → Option T → List A → Option A) → (ℕ → Bool) → Forest → List T → Option (List A)
+folded_trees value_of keeps empty tokens = Some []
+folded_trees value_of keeps (leaf t rest) tokens = folded_trees value_of keeps rest (drop 1 tokens)
+folded_trees value_of keeps (node r below rest) tokens =
     let own = take (length (leaves below)) tokens in
     in_front
-    (option_and_then (value_of r (first_if (tree_begins_kept keeps below) own)) (folded value_of keeps below own))
-    (folded value_of keeps rest (drop (length (leaves below)) tokens))
+    (option_and_then (value_of r (first_if (tree_begins_kept keeps below) own)) (folded_trees value_of keeps below own))
+    (folded_trees value_of keeps rest (drop (length (leaves below)) tokens))
 
 abbrev pub first_value : {A : Type 0} → List A → Option A
 first_value values = slice_get values 0
 
 -- the value of a tree that stands alone
 abbrev pub value_of_tree : {T A : Type 0} → (ℕ → Option T → List A → Option A) → (ℕ → Bool) → Forest → List T → Option A
-value_of_tree value_of keeps tree tokens = option_and_then first_value (folded value_of keeps tree tokens)
+value_of_tree value_of keeps tree tokens = option_and_then first_value (folded_trees value_of keeps tree tokens)

@@ -8,12 +8,12 @@ use Rattle.ll_engine.specs.View.{productions}
 use Rattle.ll_engine.specs.Checked.{IsChecked}
 use Rattle.ll_engine.specs.WrittenTable.{written_productions, IsTableWritten}
 
-abbrev pub rows_of : Rows → List Production
-rows_of (Checked rows entries) = productions rows.items
-rows_of (Written table) = written_productions table.now
+abbrev pub productions_of : Rows → List Production
+productions_of (Checked rows entries) = productions rows.items
+productions_of (Written table) = written_productions table.now
 
 abbrev pub viewed : Rows → ℕ → ℕ → ℕ → ContextFree
-viewed rows parts tokens start = record { rows = rows_of rows; parts = parts; tokens = tokens; start = start }
+viewed rows parts tokens start = record { rows = productions_of rows; parts = parts; tokens = tokens; start = start }
 
 abbrev pub IsTableOf : Rows → ContextFree → Type 0
 IsTableOf (Checked rows entries) g = IsChecked g entries.items

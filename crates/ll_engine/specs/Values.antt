@@ -5,7 +5,7 @@ use Rattle.std.specs.Prelude.{◌≡◌, ℕ, Bool, List, [], ◌∷◌, ◌++�
 use Rattle.ll_engine.specs.declared.symbol.Symbol.{Symbol}
 use Rattle.ll_engine.specs.declared.symbol.Symbol.TheVariants.{Token, Part}
 use Rattle.ll_engine.specs.Derivation.{Production, Forest, DerivesSymbols, leaves}
-use Rattle.ll_engine.specs.Fold.{front_token, folded}
+use Rattle.ll_engine.specs.Fold.{front_token, folded_trees}
 
 -- The symbols stand for the tokens, one after the other: a token for one of its kind, a part for tokens of which the
 -- relation says that they have a value as that part.
@@ -20,9 +20,9 @@ pub data StandForTokens {T A : Type 0} (kind : T → ℕ) (has : ℕ → List T 
 
 -- The rows keep the relation: where the symbols of a right side stand for tokens and the row gives a value from their
 -- values, the row's part has that value.
-abbrev pub IsKept : {T A : Type 0} → (ℕ → Option T → List A → Option A) → (ℕ → Bool) → (T → ℕ) → List Production
+abbrev pub KeepsValues : {T A : Type 0} → (ℕ → Option T → List A → Option A) → (ℕ → Bool) → (T → ℕ) → List Production
     → (ℕ → List T → A → Type 0) → Type 0
-IsKept {T} {A} value_of keeps kind rows has =
+KeepsValues {T} {A} value_of keeps kind rows has =
     (number : ℕ) (row : Production) (tokens : List T) (values : List A) (value : A) → slice_get rows number ≡ Some row
     → StandForTokens kind has row.right tokens values →
     value_of number (front_token keeps row.right tokens) values ≡ Some value → has row.left tokens value
@@ -31,4 +31,4 @@ IsKept {T} {A} value_of keeps kind rows has =
 abbrev pub HasValue : {T A : Type 0} → (ℕ → Option T → List A → Option A) → (ℕ → Bool) → (T → ℕ) → List Production → ℕ → List T → A → Type 0
 HasValue value_of keeps kind rows p tokens value =
     (tree : Forest) × DerivesSymbols rows tree (Part p ∷ []) × (leaves tree ≡ map kind tokens)
-    × (folded value_of keeps tree tokens ≡ Some (value ∷ []))
+    × (folded_trees value_of keeps tree tokens ≡ Some (value ∷ []))

@@ -52,21 +52,21 @@ pub record IsTableWritten (g : ContextFree) (table : WrittenTable) : Type 0 wher
       IsPredictedBy g row token → row_at table row.left token ≡ Some number
 
 -- the test
-abbrev pub is_number : ℕ → Option ℕ → Bool
-is_number number None = false
-is_number number (Some found) = found == number
+abbrev pub is_found_number : ℕ → Option ℕ → Bool
+is_found_number number None = false
+is_found_number number (Some found) = found == number
 
 abbrev pub all_named : List WrittenRow → ℕ → ℕ → ℕ → List ℕ → Bool
-all_named rows first part number tokens = list_all (λ token. is_number number (row_among rows first part token)) tokens
+all_named rows first part number tokens = list_all (λ token. is_found_number number (row_among rows first part token)) tokens
 
-abbrev pub names_rows : WrittenTable → Sets → ℕ → List Production → Bool
-names_rows table sets number [] = true
-names_rows table sets number (row ∷ rows) =
+abbrev pub names_its_rows : WrittenTable → Sets → ℕ → List Production → Bool
+names_its_rows table sets number [] = true
+names_its_rows table sets number (row ∷ rows) =
     all_named (drop (first_row table row.left) table.rows.now) (first_row table row.left) row.left number (predicting sets row)
-    && names_rows table sets (number + 1) rows
+    && names_its_rows table sets (number + 1) rows
 
 abbrev pub is_kept_and_named : WrittenTable → ContextFree → List PartSets → Bool
-is_kept_and_named table g known = are_kept g known && names_rows table (sets_of known) 0 g.rows
+is_kept_and_named table g known = are_kept g known && names_its_rows table (sets_of known) 0 g.rows
 
 -- the numbers of rows and parts have room, and each part's first row is there
 abbrev pub is_sized : WrittenTable → Bool

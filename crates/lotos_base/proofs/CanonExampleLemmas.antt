@@ -11,13 +11,14 @@ use Rattle.lotos_base.specs.Substitution.{Substitution, substituted, all_substit
 use Rattle.lotos_base.specs.Equation.{Equation, IsEquation, IsGroundInstance}
 use Rattle.lotos_base.specs.Equality.{Equal, AllEqual, same_term}
 use Rattle.lotos_base.specs.EqualityLaws.{IsCongruence}
-use Rattle.lotos_base.specs.SmallData.{operation_named, meet_signature, meet_data, meet_law, meet, met, meet_canon, meet_canons, a_term}
+use Rattle.lotos_base.specs.SmallData.{example_operation, meet_signature, meet_data, meet_law, meet, met, meet_canon, meet_canons, a_term}
 use Rattle.lotos_base.specs.Examples.{CanonExamples}
-use Rattle.lotos_base.proofs.ExampleHelpers.{each_member, grounding}
+use Rattle.lotos_base.proofs.ExampleHelpers.{grounding}
 use Rattle.lotos_base.proofs.TestLemmas.{Decides-term_eq}
 use Rattle.lotos_base.proofs.PathLemmas.{put_below}
 use Rattle.lotos_base.proofs.SubstitutionLemmas.{substituted_sort, instance_ground, renamed_same}
 use Rattle.lotos_base.proofs.EqualityLemmas.{equal_then, equal_back, equal_under, equal_instance, equal_related}
+use Rattle.lotos_base.proofs.Each.{each_member}
 
 -- A meet of canons is one of them where they are identical, and otherwise their meet.
 met_cases : (P : Term → Type 0) (t u : Term) → (t ≡ u → P t) → ((t ≡ u → ⊥) → P (meet t u))
@@ -118,7 +119,7 @@ mutual
 
 -- the sort of the canon
 abbrev meet_operation : Operation
-meet_operation = operation_named (codes "meet") prefix_form (0 ∷ 0 ∷ []) 0
+meet_operation = example_operation (codes "meet") prefix_form (0 ∷ 0 ∷ []) 0
 
 -- the arguments of a meet have the sort A, and so has the meet
 meet_arguments : (ts : Terms) (s : ℕ) → HasSort meet_signature (node 2 ts) s

@@ -1,7 +1,6 @@
 -- Decimal digits and the numbers that they make.
-use Rattle.std.proofs.Common.{◌≡◌, ℕ, ◌+◌, ◌*◌, ◌-◌, ◌^◌, ◌<◌, ◌≤◌, Bool, true, false, cond, nat_lt, nat_le, refl, ap, ◌∙◌, arith, add-one, pow-suc, leb-true, ltb-true, ltb-false, lt_of_lt_of_le}
+use Rattle.std.proofs.Common.{◌≡◌, ℕ, ◌+◌, ◌*◌, ◌-◌, ◌^◌, ◌<◌, ◌≤◌, Bool, true, false, cond, nat_lt, nat_le, refl, ap, ◌∙◌, arith, add-one, pow-suc, leb-true, ltb-true, ltb-false}
 use Rattle.std.specs.Char.{is_ascii_digit, digit_value}
-use Rattle.std.proofs.Math.Nat.{pow-le-pow_right}
 use Rattle.std.proofs.lemmas.Bool.{and_parts}
 
 pub digit_is : (byte : ℕ) → is_ascii_digit byte ≡ true → (48 ≤ byte) × (byte ≤ 57)
@@ -25,6 +24,3 @@ pub one_digit_more : (index value digit : ℕ) → value < 10 ^ index → digit 
 one_digit_more index value digit below high low =
     let next : 10 ^ (index + 1) ≡ 10 ^ index * 10 = ap (λ (n : ℕ). 10 ^ n) (add-one index) ∙ pow-suc 10 index in
     omega (arith, next, below, high, low)
-
-pub fits_ten : (index value : ℕ) → index < 10 → value < 10 ^ index → value < 1000000000
-fits_ten index value small below = lt_of_lt_of_le below (pow-le-pow_right {n = 10} (omega arith) {i = index} {j = 9} (omega (arith, small)))

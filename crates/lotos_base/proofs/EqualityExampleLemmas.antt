@@ -8,13 +8,14 @@ use Rattle.lotos_base.specs.Sorting.{HasSort, HaveSorts, IsGround, AreGround, Is
 use Rattle.lotos_base.specs.Substitution.{Substitution, substituted, binding}
 use Rattle.lotos_base.specs.Equation.{Equation, IsGroundInstance}
 use Rattle.lotos_base.specs.Equality.{Equal}
-use Rattle.lotos_base.specs.SmallData.{operation_named, natural_signature, natural_data, natural_operate, nought_law, successor_law, nought, successor, plus, idle_signature, idle_data, idle_law, a_term, b_term, f_term}
-use Rattle.lotos_base.specs.Meaning.{meaning, meanings, MeetsEquations}
+use Rattle.lotos_base.specs.SmallData.{example_operation, natural_signature, natural_data, natural_operate, nought_law, successor_law, nought, successor, plus, idle_signature, idle_data, idle_law, a_term, b_term, f_term}
+use Rattle.lotos_base.specs.Meaning.{interpretation, meanings, MeetsEquations}
 use Rattle.lotos_base.specs.Examples.{EqualityExamples, natural_equations_are_met}
-use Rattle.lotos_base.proofs.ExampleHelpers.{each_member, grounding}
+use Rattle.lotos_base.proofs.ExampleHelpers.{grounding}
 use Rattle.lotos_base.proofs.EqualityLemmas.{equal_then, equal_back, equal_instance, equal_inside}
 use Rattle.lotos_base.proofs.MeaningLemmas.{equal_meaning}
 use Rattle.lotos_base.proofs.SortLemmas.{one_sort}
+use Rattle.lotos_base.proofs.Each.{each_member}
 
 nought_ground : IsGroundOf natural_signature 0 nought
 nought_ground = record { ground = tt; sorted = (_, refl, refl, tt) }
@@ -63,7 +64,8 @@ head_operate _ _ = 0
 
 head_holds : MeetsEquations idle_data head_operate
 head_holds equation values is instance =
-    each_member (λ (e : Equation). meaning head_operate (substituted values e.left) ≡ meaning head_operate (substituted values e.right))
+    each_member (λ (e : Equation). interpretation head_operate (substituted values e.left)
+    ≡ interpretation head_operate (substituted values e.right))
     idle_data.equations is.0 equation (refl, tt) is.1
 
 -- one more than before, and 0 at 0
@@ -78,11 +80,11 @@ height_operate (suc (suc zero)) (m ∷ ms) = grown m
 height_operate _ _ = 0
 
 abbrev b_operation : Operation
-b_operation = operation_named (codes "b") prefix_form [] 1
+b_operation = example_operation (codes "b") prefix_form [] 1
 
 mutual
   -- a ground term of sort A has no b
-  no_height : (t : Term) → HasSort idle_signature t 0 → IsGround t → meaning height_operate t ≡ 0
+  no_height : (t : Term) → HasSort idle_signature t 0 → IsGround t → interpretation height_operate t ≡ 0
   no_height (variable n s) h g = absurd g
   no_height (node zero ts) h g = refl
   no_height (node (suc zero) ts) h g =
@@ -105,7 +107,8 @@ nothing_empty (node f ts) h g =
 height_holds : MeetsEquations idle_data height_operate
 height_holds equation values is instance =
     each_member (λ (e : Equation). IsGroundInstance idle_signature e values
-    → meaning height_operate (substituted values e.left) ≡ meaning height_operate (substituted values e.right)) idle_data.equations is.0
+    → interpretation height_operate (substituted values e.left) ≡ interpretation height_operate (substituted values e.right))
+    idle_data.equations is.0
     equation
     ((λ instance. let ground = instance.right 0 0 (inl (refl, refl)) in rw (no_height (values 0 0) ground.sorted ground.ground) refl), tt)
     is.1 instance

@@ -1,27 +1,16 @@
--- What the computed cases need: members of short lists, ill-sorted operations, values for the variables of a term.
+-- What the computed cases need: members of short lists that differ, ill-sorted operations, values for the variables of a term.
 use Rattle.std.proofs.Common.{◌≡◌, ℕ, zero, suc, Bool, true, false, ◌&&◌, not, List, [], ◌∷◌, refl, ap, sym, ◌∙◌, subst, inl, inr}
 use Rattle.std.specs.Prelude.{◌||◌, Some, slice_get}
 use Rattle.std.specs.List.{list_any}
 use Rattle.std.specs.Str.{bytes_eq}
 use Rattle.std.proofs.lemmas.Slice.Eq.{bytes_eq-Decides}
 use Rattle.std.proofs.lemmas.Option.{same_Some}
+use Rattle.lotos_base.proofs.Each.{Each, each_member}
 use Rattle.lotos_base.specs.Names.{folded, AreOneName}
 use Rattle.lotos_base.specs.Signature.{Signature, Operation, IsOperation}
 use Rattle.lotos_base.specs.Term.{Term, variable, node, Terms, no_terms, term_then}
 use Rattle.lotos_base.specs.Sorting.{HaveSorts, IsTermOf, IsGroundOf, OccursAmong}
 use Rattle.lotos_base.specs.Substitution.{Substitution, IsGrounding}
-
--- P holds of each member
-abbrev pub Each : {X : Type 0} → (X → Type 0) → List X → Type 0
-Each P [] = Unit {0}
-Each P (x ∷ xs) = P x × Each P xs
-
--- what holds of each member holds of the one at a position
-pub each_member : {X : Type 0} (P : X → Type 0) (xs : List X) (i : ℕ) (x : X) → Each P xs
-    → slice_get xs i ≡ Some x → P x
-each_member P [] i x h e = cc
-each_member P (y ∷ ys) zero x h e = subst P (same_Some y x e) h.0
-each_member P (y ∷ ys) (suc i) x h e = each_member P ys i x h.1 e
 
 -- no two members are alike
 abbrev pub Apart : {X : Type 0} → (X → X → Type 0) → List X → Type 0

@@ -7,9 +7,10 @@ use Rattle.lotos_base.specs.Term.{no_terms, term_then}
 use Rattle.lotos_base.specs.Equation.{Variable, IsEquationOver, IsWellFormedData}
 use Rattle.lotos_base.specs.SmallData.{natural_signature, natural_data, nought_law, successor_law, natural_variables, nought, successor, plus, x_natural, idle_signature, idle_data, idle_law, b_term}
 use Rattle.lotos_base.specs.Examples.{SortingExamples, PathExamples, SubstitutionExamples}
-use Rattle.lotos_base.proofs.ExampleHelpers.{each_member, one_position, one_named, unfit}
+use Rattle.lotos_base.proofs.ExampleHelpers.{one_position, one_named, unfit}
 use Rattle.lotos_base.proofs.SortLemmas.{one_sort}
 use Rattle.lotos_base.proofs.TestLemmas.{Decides-occurs}
+use Rattle.lotos_base.proofs.Each.{each_member}
 
 natural_fine : IsWellFormedSignature natural_signature
 natural_fine = record {

@@ -10,6 +10,7 @@ pub mod SortLemmas
 pub mod CanonLemmas
 pub mod PlainLemmas
 pub mod MeaningLemmas
+pub mod Each
 pub mod ExampleHelpers
 pub mod ExampleLemmas
 pub mod SignatureExampleLemmas

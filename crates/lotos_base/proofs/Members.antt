@@ -3,7 +3,7 @@ use Rattle.std.proofs.Common.{◌≡◌, ℕ, zero, suc, ◌+◌, ◌<◌, ◌�
 use Rattle.std.specs.Prelude.{Some, None, slice_get, ◌⊎◌}
 use Rattle.std.specs.Option.{option_map}
 use Rattle.std.proofs.lemmas.Grind.{get_or_default_zero}
-use Rattle.std.proofs.lemmas.Option.{same_Some, none-some, slice_get-map, slice_get-get_or, slice_get_within}
+use Rattle.std.proofs.lemmas.Option.{same_Some, none-some, slice_get-map, slice_get-get_or, slice_get_within, slice_get_read}
 use Rattle.lotos_base.proofs.Numbers.{split_last}
 
 -- a member within the list
@@ -11,6 +11,14 @@ pub member_at : {X : Type 0} (xs : List X) (i : ℕ) → i < length xs → (x : 
 member_at [] i within = absurd (omega (arith, within))
 member_at (x ∷ xs) zero within = (x, refl)
 member_at (x ∷ xs) (suc i) within = member_at xs i (omega (arith, within))
+
+-- a member as code reads it, and the same of a list behind a reference
+pub read_member : {X : Type 0} (xs : List X) (i : ℕ) (x : X) → i < length xs → x ≡ get_or xs i x → slice_get xs i ≡ Some x
+read_member xs i x within is = slice_get_read xs (length xs) i x refl within is
+
+pub read_member_of : {X : Type 0} (xs ys : List X) (i : ℕ) (x : X) → xs ≡ ys → i < length xs → x ≡ get_or xs i x
+    → slice_get ys i ≡ Some x
+read_member_of {X = X} xs ys i x same within is = subst (λ (it : List X). slice_get it i ≡ Some x) same (read_member xs i x within is)
 
 -- ---- Of a mapped list.
 
@@ -44,6 +52,12 @@ pub at_front : {X : Type 0} (xs ys : List X) (i : ℕ) (x : X) → slice_get xs 
 at_front [] ys i x at = absurd (cc at)
 at_front (z ∷ xs) ys zero x at = at
 at_front (z ∷ xs) ys (suc i) x at = at_front xs ys i x at
+
+pub from_front : {X : Type 0} (xs ys : List X) (i : ℕ) (x : X) → i < length xs → slice_get (xs ++ ys) i ≡ Some x
+    → slice_get xs i ≡ Some x
+from_front [] ys i x within at = absurd (omega (arith, within))
+from_front (z ∷ xs) ys zero x within at = at
+from_front (z ∷ xs) ys (suc i) x within at = from_front xs ys i x (omega (arith, within)) at
 
 pub at_end : {X : Type 0} (kept : List X) (x : X) (xs : List X) → slice_get (kept ++ x ∷ xs) (length kept) ≡ Some x
 at_end [] x xs = refl

@@ -1,6 +1,7 @@
 -- Natural numbers and their order.
 use Rattle.std.proofs.Common.{◌≡◌, ℕ, zero, suc, ◌+◌, ◌<◌, ◌≤◌, ap, inl, inr, refl, arith}
 use Rattle.std.specs.Prelude.{◌⊎◌}
+use Rattle.std.proofs.lemmas.Bool.{cases_order}
 
 -- a number within a limit is below all that is above the limit
 pub below_limit : (n m limit top : ℕ) → n ≡ m → m ≤ limit → limit < top → n < top
@@ -23,3 +24,12 @@ split_last (suc k) (suc i) h = go (split_last k i (omega (arith, h)))
 
 pub suc-injective : (i j : ℕ) → suc i ≡ suc j → i ≡ j
 suc-injective i j e = omega (arith, e)
+
+-- one of two numbers is less, or they are one
+pub compared : (m n : ℕ) → (m < n) ⊎ ((m ≡ n) ⊎ (n < m))
+compared m n = by (cases_order m n)
+  where
+    by : (m ≡ n) ⊎ ((m < n) ⊎ (n < m)) → (m < n) ⊎ ((m ≡ n) ⊎ (n < m))
+    by (inl same) = inr (inl same)
+    by (inr (inl less)) = inl less
+    by (inr (inr more)) = inr (inr more)

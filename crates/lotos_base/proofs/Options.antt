@@ -1,6 +1,6 @@
--- Options.
-use Rattle.std.proofs.Common.{◌≡◌, refl}
-use Rattle.std.specs.Prelude.{Option, Some, None}
+-- Options and results.
+use Rattle.std.proofs.Common.{◌≡◌, refl, sym, subst}
+use Rattle.std.specs.Prelude.{Option, Some, None, Result, Ok, Err, MatchResult, IsErrAnd}
 use Rattle.std.specs.Option.{option_map, option_and_then}
 use Rattle.std.proofs.lemmas.Option.{same_Some}
 
@@ -21,3 +21,9 @@ pub chained : {X Y : Type 0} (f : X → Option Y) (o : Option X) {y : Y} → opt
     → (x : X) × (o ≡ Some x) × (f x ≡ Some y)
 chained f None e = absurd (cc)
 chained f (Some x) e = (x, refl, e)
+
+-- an error that `?` hands on
+pub gave_up : {T E : Type 0} (P : T → Type 0) (Q : E → Type 0) (r : Result T E) (fault : E) → IsErrAnd r (λ (e : E). e ≡ fault)
+    → Q fault → MatchResult r P Q
+gave_up P Q (Ok x) fault is h = absurd is
+gave_up P Q (Err e) fault is h = subst Q (sym is) h

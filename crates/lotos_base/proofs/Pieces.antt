@@ -1,9 +1,9 @@
 -- Lists in pieces: a first member and the rest, a front and what is left, pieces joined.
-use Rattle.std.proofs.Common.{◌≡◌, ℕ, ◌+◌, ◌-◌, ◌<◌, ◌≤◌, List, [], ◌∷◌, ◌++◌, length, get_or, take, drop, refl, ap, sym, ◌∙◌, arith}
+use Rattle.std.proofs.Common.{◌≡◌, ℕ, ◌+◌, ◌-◌, ◌<◌, ◌≤◌, List, [], ◌∷◌, ◌++◌, length, get_or, take, drop, refl, ap, sym, ◌∙◌, arith, true, nat_eq, eqb-true}
 use Rattle.std.proofs.Math.Seq.{take-length}
 use Rattle.std.specs.List.{zip}
 use Rattle.std.specs.Fmt.{decimal}
-use Rattle.std.proofs.lemmas.List.{append_assoc, drop_more, length-drop, take_rest}
+use Rattle.std.proofs.lemmas.List.{append_assoc, drop_more, length-drop, take_rest, nil_from_length, take_more}
 
 -- ---- A first member and the rest.
 
@@ -22,11 +22,19 @@ zip-nil [] ys e = refl
 zip-nil (x ∷ xs) [] e = refl
 zip-nil (x ∷ xs) (y ∷ ys) e = absurd (cc e)
 
+-- a list without members, as a test of its length tells
+pub no_member_by_length : {X : Type 0} (xs : List X) → nat_eq (length xs) 0 ≡ true → xs ≡ []
+no_member_by_length xs is = nil_from_length xs (eqb-true (length xs) 0 is)
+
 -- ---- A front and what is left.
 
 -- what is left from a place on: the member there, as code reads it, and what is left after it
 pub next_member : {X : Type 0} (xs : List X) (i : ℕ) (x : X) → i < length xs → x ≡ get_or xs i x → drop i xs ≡ x ∷ drop (i + 1) xs
 next_member xs i x within is = drop_more xs i x within ∙ ap (λ y. y ∷ drop (i + 1) xs) (sym is)
+
+-- one member more in front
+pub take_member : {X : Type 0} (xs : List X) (i : ℕ) (x : X) → i < length xs → x ≡ get_or xs i x → take (i + 1) xs ≡ take i xs ++ x ∷ []
+take_member {X = X} xs i x within is = take_more xs i x within ∙ ap (λ (y : X). take i xs ++ y ∷ []) (sym is)
 
 pub take_whole : {X : Type 0} (xs : List X) (n : ℕ) → n ≡ length xs → take n xs ≡ xs
 take_whole xs n is = ap (λ (m : ℕ). take m xs) is ∙ take-length xs

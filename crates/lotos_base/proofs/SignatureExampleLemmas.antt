@@ -5,10 +5,11 @@ use Rattle.std.proofs.lemmas.Option.{none-some}
 use Rattle.lotos_base.specs.Signature.{Sort, Operation, prefix_form, infix_form, IsSort, IsWellFormedSignature}
 use Rattle.lotos_base.specs.Term.{variable}
 use Rattle.lotos_base.specs.Equation.{OccursIn, HasOneSort, HasOneSortPerNumber}
-use Rattle.lotos_base.specs.SmallData.{equation_of, idle_signature, a_term, b_term, f_term}
+use Rattle.lotos_base.specs.SmallData.{example_equation, idle_signature, a_term, b_term, f_term}
 use Rattle.lotos_base.specs.Examples.{overloaded_signature, undeclared_x, two_sorts_of_x, SignatureExamples, TwinExamples, SortedDataExamples}
-use Rattle.lotos_base.proofs.ExampleHelpers.{each_member, one_position, one_named}
+use Rattle.lotos_base.proofs.ExampleHelpers.{one_position, one_named}
 use Rattle.lotos_base.proofs.SortLemmas.{one_sort}
+use Rattle.lotos_base.proofs.Each.{each_member}
 
 -- the operations have one form and one profile
 abbrev Alike : Operation → Operation → Type 0
@@ -79,7 +80,7 @@ twin_examples = record {
 }
 
 -- x occurs in f(x) = x with the sort 0 alone
-x_of_one_sort : (n s : ℕ) → OccursIn (equation_of [] (f_term (variable 0 0)) (variable 0 0)) n s → 0 ≡ s
+x_of_one_sort : (n s : ℕ) → OccursIn (example_equation [] (f_term (variable 0 0)) (variable 0 0)) n s → 0 ≡ s
 x_of_one_sort n s (inl (inl o)) = o.1
 x_of_one_sort n s (inl (inr o)) = absurd o
 x_of_one_sort n s (inr o) = o.1

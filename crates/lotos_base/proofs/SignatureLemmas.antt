@@ -11,7 +11,7 @@ use Rattle.lotos_base.specs.Names.{folded, AreOneName}
 use Rattle.lotos_base.specs.Signature.{Form, prefix_form, infix_form, Operation, Signature, IsOperation, IsWellFormedSignature}
 use Rattle.lotos_base.specs.Twins.{AreTwins, HasTwin, form_eq, are_twins, has_twin}
 
-Decides-form_eq : (one other : Form) → Decides (form_eq one other) (one ≡ other)
+pub Decides-form_eq : (one other : Form) → Decides (form_eq one other) (one ≡ other)
 Decides-form_eq prefix_form prefix_form = ((λ h. refl), (λ h. refl))
 Decides-form_eq prefix_form infix_form = ((λ h. cc), (λ h. cc))
 Decides-form_eq infix_form prefix_form = ((λ h. cc), (λ h. cc))

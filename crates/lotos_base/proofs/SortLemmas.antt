@@ -4,7 +4,7 @@ use Rattle.std.specs.Prelude.{Some, slice_get}
 use Rattle.std.proofs.lemmas.Option.{same_Some}
 use Rattle.lotos_base.specs.Signature.{Signature, Operation}
 use Rattle.lotos_base.specs.Term.{Term, variable, node, Terms, no_terms, term_then}
-use Rattle.lotos_base.specs.Sorting.{HasSort, HaveSorts, sort_of, IsGround, AreGround}
+use Rattle.lotos_base.specs.Sorting.{HasSort, HaveSorts, head_sort_of, IsGround, AreGround}
 use Rattle.lotos_base.specs.Path.{argument_at, with_argument, subterm, put_at}
 use Rattle.lotos_base.specs.Substitution.{Substitution, substituted}
 use Rattle.lotos_base.specs.Equation.{Variable, Equation, Data, IsEquation, IsDeclared, OccursIn, HasOneSort, HasSortedSides, HasOneSortPerNumber, AreSortedData, IsEquationOver, IsWellFormedData, IsGroundInstance}
@@ -64,7 +64,7 @@ one_sort signature (node f ts) r s h k =
     sym h.2 ∙ ap (λ (o : Operation). o.result) (same_Some h.0 k.0 (sym h.1 ∙ k.1)) ∙ k.2
 
 -- it is the one that its head gives it
-pub sort_of_sorted : (signature : Signature) (t : Term) (s : ℕ) → HasSort signature t s → sort_of signature t ≡ Some s
+pub sort_of_sorted : (signature : Signature) (t : Term) (s : ℕ) → HasSort signature t s → head_sort_of signature t ≡ Some s
 sort_of_sorted signature (variable n q) s h = ap (λ (r : ℕ). Some r) h.0
 sort_of_sorted signature (node f ts) s h = rw (h.1) (ap (λ (r : ℕ). Some r) h.2)
 

@@ -1,14 +1,14 @@
 -- Terms and argument lists: round trips, tests, and that identity of terms is a proposition.
 use Rattle.std.proofs.Common.{◌≡◌, ℕ, zero, suc, List, [], ◌∷◌, refl, ap}
 use Rattle.std.specs.Prelude.{slice_get}
-use Rattle.lotos_base.specs.Term.{Term, Terms, no_terms, term_then, terms_of, list_of}
+use Rattle.lotos_base.specs.Term.{Term, Terms, no_terms, term_then, argument_list_of, list_of}
 use Rattle.lotos_base.specs.Path.{argument_at}
 
-pub list_of-terms_of : (ts : List Term) → list_of (terms_of ts) ≡ ts
+pub list_of-terms_of : (ts : List Term) → list_of (argument_list_of ts) ≡ ts
 list_of-terms_of [] = refl
 list_of-terms_of (t ∷ ts) = ap (λ us. t ∷ us) (list_of-terms_of ts)
 
-pub terms_of-list_of : (ts : Terms) → terms_of (list_of ts) ≡ ts
+pub terms_of-list_of : (ts : Terms) → argument_list_of (list_of ts) ≡ ts
 terms_of-list_of no_terms = refl
 terms_of-list_of (term_then t ts) = ap (λ us. term_then t us) (terms_of-list_of ts)
 

@@ -12,5 +12,13 @@ pub not_both : (b : Bool) → not b ≡ true → b ≡ true → ⊥
 not_both true e h = absurd (cc e)
 not_both false e h = absurd (cc h)
 
+pub true_unless : (b : Bool) → (b ≡ true → ⊥) → not b ≡ true
+true_unless true never = absurd (never refl)
+true_unless false never = refl
+
 pub second_alone : (x y : Bool) → x ≡ false → (x || y) ≡ y
 second_alone x y h = rw h refl
+
+-- what holds of everything
+pub unit : Unit {0}
+unit = tt

@@ -4,8 +4,8 @@ use Rattle.std.proofs.Common.{refl, sym, ◌∙◌, ap, subst, zero-add, suc-add
 use Rattle.std.proofs.lemmas.Option.{same_Some, none-some}
 use Rattle.lotos_base.specs.Signature.{Signature, Operation, Form, prefix_form, infix_form, IsWellFormedSignature}
 use Rattle.lotos_base.specs.Twins.{are_twins, has_twin}
-use Rattle.lotos_base.specs.Term.{Term, variable, node, no_terms, term_then, terms_of}
-use Rattle.lotos_base.specs.Sorting.{HasSort, IsTermOf, sort_of, IsGround, IsGroundOf, Occurs}
+use Rattle.lotos_base.specs.Term.{Term, variable, node, no_terms, term_then, argument_list_of}
+use Rattle.lotos_base.specs.Sorting.{HasSort, IsTermOf, head_sort_of, IsGround, IsGroundOf, Occurs}
 use Rattle.lotos_base.specs.Path.{subterm, put_at, AreParallel}
 use Rattle.lotos_base.specs.Substitution.{Substitution, substituted, followed_by, binding, without}
 use Rattle.lotos_base.specs.Equation.{Equation, Data, HasSortedSides, AreSortedData, IsEquationOver, IsWellFormedData, IsGroundInstance}
@@ -15,10 +15,10 @@ use Rattle.lotos_base.specs.Meaning.{MeetsEquations}
 use Rattle.lotos_base.specs.MeaningFacts.{meaning_is_congruence}
 use Rattle.lotos_base.specs.Canon.{KeepsApart, IsCanon}
 use Rattle.lotos_base.specs.SmallData.{
-  sort_named,
-  operation_named,
-  variable_named,
-  equation_of,
+  example_sort,
+  example_operation,
+  example_variable,
+  example_equation,
   natural_signature,
   nought,
   successor,
@@ -44,37 +44,37 @@ use Rattle.lotos_base.specs.SmallData.{
 
 -- one sort A, and these operations
 abbrev pub with_operations : List Operation → Signature
-with_operations operations = record { sorts = sort_named (codes "A") ∷ []; operations = operations }
+with_operations operations = record { sorts = example_sort (codes "A") ∷ []; operations = operations }
 
 abbrev pub overloaded_signature : Signature
 overloaded_signature = record {
-  sorts = sort_named (codes "A") ∷ sort_named (codes "B") ∷ [];
-  operations = operation_named (codes "c") prefix_form [] 0
-      ∷ operation_named (codes "c") prefix_form [] 1
-      ∷ operation_named (codes "c") prefix_form (0 ∷ 0 ∷ []) 0
-      ∷ operation_named (codes "c") infix_form (0 ∷ 0 ∷ []) 0
+  sorts = example_sort (codes "A") ∷ example_sort (codes "B") ∷ [];
+  operations = example_operation (codes "c") prefix_form [] 0
+      ∷ example_operation (codes "c") prefix_form [] 1
+      ∷ example_operation (codes "c") prefix_form (0 ∷ 0 ∷ []) 0
+      ∷ example_operation (codes "c") infix_form (0 ∷ 0 ∷ []) 0
       ∷ [];
 }
 
 abbrev pub one_name_twice : Signature
-one_name_twice = record { sorts = sort_named (codes "A") ∷ sort_named (codes "A") ∷ []; operations = [] }
+one_name_twice = record { sorts = example_sort (codes "A") ∷ example_sort (codes "A") ∷ []; operations = [] }
 
 abbrev pub one_name_in_two_cases : Signature
-one_name_in_two_cases = record { sorts = sort_named (codes "A") ∷ sort_named (codes "a") ∷ []; operations = [] }
+one_name_in_two_cases = record { sorts = example_sort (codes "A") ∷ example_sort (codes "a") ∷ []; operations = [] }
 
 -- the operation And from two arguments of sort 0 to this sort, in this form
 abbrev pub and_to : Form → ℕ → Operation
-and_to form result = operation_named (codes "And") form (0 ∷ 0 ∷ []) result
+and_to form result = example_operation (codes "And") form (0 ∷ 0 ∷ []) result
 
 abbrev pub AND_to : Form → ℕ → Operation
-AND_to form result = operation_named (codes "AND") form (0 ∷ 0 ∷ []) result
+AND_to form result = example_operation (codes "AND") form (0 ∷ 0 ∷ []) result
 
 -- the constant c of sort A, and the operation c with an argument of a sort that is not there
 abbrev pub constant_c : Operation
-constant_c = operation_named (codes "c") prefix_form [] 0
+constant_c = example_operation (codes "c") prefix_form [] 0
 
 abbrev pub operation_c : Operation
-operation_c = operation_named (codes "c") prefix_form (1 ∷ []) 0
+operation_c = example_operation (codes "c") prefix_form (1 ∷ []) 0
 
 pub record SignatureExamples : Type 0 where
   -- operations of one name may differ in their result, in their arguments or in their form
@@ -85,29 +85,29 @@ pub record SignatureExamples : Type 0 where
   -- spellings that differ in letter case alone are one name
   pub sort_in_two_cases : ¬ IsWellFormedSignature one_name_in_two_cases
   pub operation_in_two_cases : ¬ IsWellFormedSignature (with_operations (and_to infix_form 0 ∷ AND_to infix_form 0 ∷ []))
-  pub no_result : ¬ IsWellFormedSignature (with_operations (operation_named (codes "c") prefix_form [] 1 ∷ []))
+  pub no_result : ¬ IsWellFormedSignature (with_operations (example_operation (codes "c") prefix_form [] 1 ∷ []))
   pub no_argument : ¬ IsWellFormedSignature (with_operations (operation_c ∷ []))
   -- a = b has sides of two sorts; f(x) = f(x) needs x declared, with a sort of the signature, and once
-  pub two_sorts : ¬ IsEquationOver idle_signature (equation_of [] a_term b_term)
-  pub undeclared : ¬ IsEquationOver idle_signature (equation_of [] (f_term (variable 0 0)) a_term)
-  pub undeclared_right : ¬ IsEquationOver idle_signature (equation_of [] a_term (f_term (variable 0 0)))
-  pub no_sort : ¬ IsEquationOver idle_signature (equation_of (variable_named (codes "x") 0 3 ∷ []) a_term a_term)
+  pub two_sorts : ¬ IsEquationOver idle_signature (example_equation [] a_term b_term)
+  pub undeclared : ¬ IsEquationOver idle_signature (example_equation [] (f_term (variable 0 0)) a_term)
+  pub undeclared_right : ¬ IsEquationOver idle_signature (example_equation [] a_term (f_term (variable 0 0)))
+  pub no_sort : ¬ IsEquationOver idle_signature (example_equation (example_variable (codes "x") 0 3 ∷ []) a_term a_term)
   pub declared_twice : ¬ IsEquationOver idle_signature
-      (equation_of (variable_named (codes "x") 0 0 ∷ variable_named (codes "y") 0 1 ∷ []) a_term a_term)
+      (example_equation (example_variable (codes "x") 0 0 ∷ example_variable (codes "y") 0 1 ∷ []) a_term a_term)
 
 -- sorts A and B, and p with an argument of each; p(x, x) = x, with x of sort A and of sort B under one number
 abbrev pub two_sorts_of_x : Data
 two_sorts_of_x = record {
   signature = record {
-    sorts = sort_named (codes "A") ∷ sort_named (codes "B") ∷ [];
-    operations = operation_named (codes "p") prefix_form (0 ∷ 1 ∷ []) 0 ∷ [];
+    sorts = example_sort (codes "A") ∷ example_sort (codes "B") ∷ [];
+    operations = example_operation (codes "p") prefix_form (0 ∷ 1 ∷ []) 0 ∷ [];
   };
-  equations = equation_of [] (node 0 (term_then (variable 0 0) (term_then (variable 0 1) no_terms))) (variable 0 0) ∷ [];
+  equations = example_equation [] (node 0 (term_then (variable 0 0) (term_then (variable 0 1) no_terms))) (variable 0 0) ∷ [];
 }
 
 -- f(x) = x, with x not declared
 abbrev pub undeclared_x : Data
-undeclared_x = record { signature = idle_signature; equations = equation_of [] (f_term (variable 0 0)) (variable 0 0) ∷ [] }
+undeclared_x = record { signature = idle_signature; equations = example_equation [] (f_term (variable 0 0)) (variable 0 0) ∷ [] }
 
 pub record SortedDataExamples : Type 0 where
   -- a variable need not be declared for data to be sorted, and its number must have one sort
@@ -121,11 +121,11 @@ pub record TwinExamples : Type 0 where
   pub twins : are_twins (and_to infix_form 0) (AND_to infix_form 1) ≡ true
   pub two_forms : are_twins (and_to infix_form 0) (AND_to prefix_form 1) ≡ false
   pub one_result : are_twins (and_to infix_form 0) (AND_to infix_form 0) ≡ false
-  pub other_arguments : are_twins constant_c (operation_named (codes "c") prefix_form (0 ∷ []) 1) ≡ false
-  pub other_name : are_twins constant_c (operation_named (codes "d") prefix_form [] 1) ≡ false
+  pub other_arguments : are_twins constant_c (example_operation (codes "c") prefix_form (0 ∷ []) 1) ≡ false
+  pub other_name : are_twins constant_c (example_operation (codes "d") prefix_form [] 1) ≡ false
   -- of the four operations c the constants alone have a twin
   pub first_constant : has_twin overloaded_signature constant_c ≡ true
-  pub prefix_operation : has_twin overloaded_signature (operation_named (codes "c") prefix_form (0 ∷ 0 ∷ []) 0) ≡ false
+  pub prefix_operation : has_twin overloaded_signature (example_operation (codes "c") prefix_form (0 ∷ 0 ∷ []) 0) ≡ false
 
 pub record SortingExamples : Type 0 where
   -- 0 + Succ(x) is a term of sort Nat
@@ -139,7 +139,7 @@ pub record SortingExamples : Type 0 where
   pub no_operation : ¬ IsTermOf natural_signature (node 3 no_terms)
   pub no_sort : ¬ IsTermOf natural_signature (variable 0 1)
   -- f(b) has the sort A by its head alone
-  pub head : sort_of idle_signature (f_term b_term) ≡ Some 0
+  pub head : head_sort_of idle_signature (f_term b_term) ≡ Some 0
   -- 0 + Succ(0) is ground, and 0 + Succ(x) is not
   pub ground : IsGround (plus nought (successor nought))
   pub not_ground : ¬ IsGround (plus nought (successor x_natural))
@@ -148,7 +148,7 @@ pub record SortingExamples : Type 0 where
   pub other_number : ¬ Occurs 1 0 (plus nought (successor x_natural))
   pub other_sort : ¬ Occurs 0 1 (plus nought (successor x_natural))
   -- a list of terms as arguments
-  pub arguments : terms_of (a_term ∷ b_term ∷ []) ≡ term_then a_term (term_then b_term no_terms)
+  pub arguments : argument_list_of (a_term ∷ b_term ∷ []) ≡ term_then a_term (term_then b_term no_terms)
   -- the signatures and the data are well formed
   pub naturals : IsWellFormedData natural_data
   pub idle : IsWellFormedData idle_data

@@ -7,17 +7,17 @@ use Rattle.lotos_base.specs.Equation.{Equation, Data, IsEquation, IsGroundInstan
 abbrev mutual
   -- The number that a term means, by what each operation does with the numbers of its arguments. A variable counts
   -- as 0.
-  pub meaning : (ℕ → List ℕ → ℕ) → Term → ℕ
-  meaning operate (variable n s) = 0
-  meaning operate (node f ts) = operate f (meanings operate ts)
+  pub interpretation : (ℕ → List ℕ → ℕ) → Term → ℕ
+  interpretation operate (variable n s) = 0
+  interpretation operate (node f ts) = operate f (meanings operate ts)
 
   -- The numbers that the terms mean.
   pub meanings : (ℕ → List ℕ → ℕ) → Terms → List ℕ
   meanings operate no_terms = []
-  meanings operate (term_then t ts) = meaning operate t ∷ meanings operate ts
+  meanings operate (term_then t ts) = interpretation operate t ∷ meanings operate ts
 
 -- The reading meets the equations of the data: the two sides of each ground instance mean the same number.
 abbrev pub MeetsEquations : Data → (ℕ → List ℕ → ℕ) → Type 0
 MeetsEquations data_ operate = (equation : Equation) (values : Substitution) → IsEquation data_ equation
     → IsGroundInstance data_.signature equation values
-    → meaning operate (substituted values equation.left) ≡ meaning operate (substituted values equation.right)
+    → interpretation operate (substituted values equation.left) ≡ interpretation operate (substituted values equation.right)

@@ -4,30 +4,30 @@ use Rattle.lotos_base.specs.Signature.{Signature, Sort, Operation, Form, prefix_
 use Rattle.lotos_base.specs.Term.{Term, variable, node, Terms, no_terms, term_then}
 use Rattle.lotos_base.specs.Tests.{term_eq}
 use Rattle.lotos_base.specs.Equation.{Variable, Equation, Data}
-use Rattle.lotos_base.specs.Meaning.{meaning}
+use Rattle.lotos_base.specs.Meaning.{interpretation}
 
-abbrev pub sort_named : List ℕ → Sort
-sort_named name = record { name = name; origin = codes "Example" }
+abbrev pub example_sort : List ℕ → Sort
+example_sort name = record { name = name; origin = codes "Example" }
 
-abbrev pub operation_named : List ℕ → Form → List ℕ → ℕ → Operation
-operation_named name form arguments result =
+abbrev pub example_operation : List ℕ → Form → List ℕ → ℕ → Operation
+example_operation name form arguments result =
     record { name = name; form = form; arguments = arguments; result = result; origin = codes "Example" }
 
-abbrev pub variable_named : List ℕ → ℕ → ℕ → Variable
-variable_named name number sort = record { name = name; number = number; sort = sort }
+abbrev pub example_variable : List ℕ → ℕ → ℕ → Variable
+example_variable name number sort = record { name = name; number = number; sort = sort }
 
-abbrev pub equation_of : List Variable → Term → Term → Equation
-equation_of variables left right =
+abbrev pub example_equation : List Variable → Term → Term → Equation
+example_equation variables left right =
     record { place = record { text = 0; line = 1; column = 1 }; variables = variables; left = left; right = right }
 
 -- ---- Natural numbers: 0, Succ and +, with 0 + x = x and Succ(x) + y = Succ(x + y).
 
 abbrev pub natural_signature : Signature
 natural_signature = record {
-  sorts = sort_named (codes "Nat") ∷ [];
-  operations = operation_named (codes "0") prefix_form [] 0
-      ∷ operation_named (codes "Succ") prefix_form (0 ∷ []) 0
-      ∷ operation_named (codes "+") infix_form (0 ∷ 0 ∷ []) 0
+  sorts = example_sort (codes "Nat") ∷ [];
+  operations = example_operation (codes "0") prefix_form [] 0
+      ∷ example_operation (codes "Succ") prefix_form (0 ∷ []) 0
+      ∷ example_operation (codes "+") infix_form (0 ∷ 0 ∷ []) 0
       ∷ [];
 }
 
@@ -51,15 +51,15 @@ abbrev pub y_natural : Term
 y_natural = variable 1 0
 
 abbrev pub natural_variables : List Variable
-natural_variables = variable_named (codes "x") 0 0 ∷ variable_named (codes "y") 1 0 ∷ []
+natural_variables = example_variable (codes "x") 0 0 ∷ example_variable (codes "y") 1 0 ∷ []
 
 -- 0 + x = x, declared with x and y, of which y does not occur
 abbrev pub nought_law : Equation
-nought_law = equation_of natural_variables (plus nought x_natural) x_natural
+nought_law = example_equation natural_variables (plus nought x_natural) x_natural
 
 -- Succ(x) + y = Succ(x + y)
 abbrev pub successor_law : Equation
-successor_law = equation_of natural_variables (plus (successor x_natural) y_natural) (successor (plus x_natural y_natural))
+successor_law = example_equation natural_variables (plus (successor x_natural) y_natural) (successor (plus x_natural y_natural))
 
 abbrev pub natural_data : Data
 natural_data = record { signature = natural_signature; equations = nought_law ∷ successor_law ∷ [] }
@@ -73,7 +73,7 @@ natural_operate _ _ = 0
 
 -- the number that a term means, with 0 for each variable
 abbrev pub natural_meaning : Term → ℕ
-natural_meaning t = meaning natural_operate t
+natural_meaning t = interpretation natural_operate t
 
 -- natural numbers without equations
 abbrev pub bare_data : Data
@@ -84,10 +84,10 @@ bare_data = record { signature = natural_signature; equations = [] }
 
 abbrev pub idle_signature : Signature
 idle_signature = record {
-  sorts = sort_named (codes "A") ∷ sort_named (codes "B") ∷ sort_named (codes "Empty") ∷ [];
-  operations = operation_named (codes "a") prefix_form [] 0
-      ∷ operation_named (codes "b") prefix_form [] 1
-      ∷ operation_named (codes "f") prefix_form (0 ∷ []) 0
+  sorts = example_sort (codes "A") ∷ example_sort (codes "B") ∷ example_sort (codes "Empty") ∷ [];
+  operations = example_operation (codes "a") prefix_form [] 0
+      ∷ example_operation (codes "b") prefix_form [] 1
+      ∷ example_operation (codes "f") prefix_form (0 ∷ []) 0
       ∷ [];
 }
 
@@ -101,8 +101,8 @@ abbrev pub f_term : Term → Term
 f_term t = node 2 (term_then t no_terms)
 
 abbrev pub idle_law : Equation
-idle_law = equation_of
-    (variable_named (codes "x") 0 0 ∷ variable_named (codes "z") 1 2 ∷ [])
+idle_law = example_equation
+    (example_variable (codes "x") 0 0 ∷ example_variable (codes "z") 1 2 ∷ [])
     (f_term (f_term (variable 0 0)))
     (f_term (variable 0 0))
 
@@ -114,10 +114,10 @@ idle_data = record { signature = idle_signature; equations = idle_law ∷ [] }
 
 abbrev pub meet_signature : Signature
 meet_signature = record {
-  sorts = sort_named (codes "A") ∷ [];
-  operations = operation_named (codes "a") prefix_form [] 0
-      ∷ operation_named (codes "b") prefix_form [] 0
-      ∷ operation_named (codes "meet") prefix_form (0 ∷ 0 ∷ []) 0
+  sorts = example_sort (codes "A") ∷ [];
+  operations = example_operation (codes "a") prefix_form [] 0
+      ∷ example_operation (codes "b") prefix_form [] 0
+      ∷ example_operation (codes "meet") prefix_form (0 ∷ 0 ∷ []) 0
       ∷ [];
 }
 
@@ -125,7 +125,7 @@ abbrev pub meet : Term → Term → Term
 meet t u = node 2 (term_then t (term_then u no_terms))
 
 abbrev pub meet_law : Equation
-meet_law = equation_of (variable_named (codes "x") 0 0 ∷ []) (meet (variable 0 0) (variable 0 0)) (variable 0 0)
+meet_law = example_equation (example_variable (codes "x") 0 0 ∷ []) (meet (variable 0 0) (variable 0 0)) (variable 0 0)
 
 abbrev pub meet_data : Data
 meet_data = record { signature = meet_signature; equations = meet_law ∷ [] }

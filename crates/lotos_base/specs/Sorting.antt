@@ -25,9 +25,9 @@ abbrev pub IsTermOf : Signature → Term → Type 0
 IsTermOf signature t = (sort : ℕ) × HasSort signature t sort
 
 -- The sort that a term's head gives it, if the signature has the operation.
-abbrev pub sort_of : Signature → Term → Option ℕ
-sort_of signature (variable n s) = Some s
-sort_of signature (node f ts) = option_map (λ (o : Operation). o.result) (slice_get signature.operations f)
+abbrev pub head_sort_of : Signature → Term → Option ℕ
+head_sort_of signature (variable n s) = Some s
+head_sort_of signature (node f ts) = option_map (λ (o : Operation). o.result) (slice_get signature.operations f)
 
 abbrev mutual
   -- The term has no variable.

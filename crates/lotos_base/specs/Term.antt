@@ -14,9 +14,9 @@ mutual
     term_then : Term → Terms → Terms
 
 -- The argument list with the members of a list.
-abbrev pub terms_of : List Term → Terms
-terms_of [] = no_terms
-terms_of (t ∷ ts) = term_then t (terms_of ts)
+abbrev pub argument_list_of : List Term → Terms
+argument_list_of [] = no_terms
+argument_list_of (t ∷ ts) = term_then t (argument_list_of ts)
 
 -- The list of the members of an argument list.
 abbrev pub list_of : Terms → List Term

@@ -1,18 +1,18 @@
 -- Laws of terms: argument lists are lists, the tests decide, a term has one sort.
 use Rattle.std.specs.Prelude.{◌≡◌, ◌↔◌, ℕ, List, Some, IsTrue, slice_get}
 use Rattle.lotos_base.specs.Signature.{Signature}
-use Rattle.lotos_base.specs.Term.{Term, Terms, terms_of, list_of}
-use Rattle.lotos_base.specs.Sorting.{HasSort, sort_of, IsGround, Occurs}
+use Rattle.lotos_base.specs.Term.{Term, Terms, argument_list_of, list_of}
+use Rattle.lotos_base.specs.Sorting.{HasSort, head_sort_of, IsGround, Occurs}
 use Rattle.lotos_base.specs.Path.{argument_at}
 use Rattle.lotos_base.specs.Tests.{term_eq, terms_eq, is_ground, occurs}
 
 -- a list put into argument form and back is the same list
 abbrev pub ListsComeBack : Type 0
-ListsComeBack = (ts : List Term) → list_of (terms_of ts) ≡ ts
+ListsComeBack = (ts : List Term) → list_of (argument_list_of ts) ≡ ts
 
 -- arguments put into a list and back are the same arguments
 abbrev pub ArgumentsComeBack : Type 0
-ArgumentsComeBack = (ts : Terms) → terms_of (list_of ts) ≡ ts
+ArgumentsComeBack = (ts : Terms) → argument_list_of (list_of ts) ≡ ts
 
 -- the argument at a position is the member of the list at that position
 abbrev pub ArgumentsAreMembers : Type 0
@@ -46,4 +46,4 @@ SortsAreUnique = (signature : Signature) (t : Term) (r s : ℕ) → HasSort sign
 -- the sort of a well-sorted term is the one that its head gives it
 abbrev pub HeadsGiveSorts : Type 0
 HeadsGiveSorts = (signature : Signature) (t : Term) (s : ℕ) → HasSort signature t s
-    → sort_of signature t ≡ Some s
+    → head_sort_of signature t ≡ Some s

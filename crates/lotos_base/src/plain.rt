@@ -3,7 +3,7 @@
 ghost use Rattle.std.specs.Prelude.{◌≡◌, ◌↔◌, ◌∷◌, ◌<◌, [], IfOk, IsTrue, length};
 ghost use Rattle.std.specs.Option.{option_map};
 ghost use Rattle.lotos_base.specs.Path.{put_at, subterm as subterm_at, with_argument as argument_put};
-ghost use Rattle.lotos_base.specs.PlainView.{arguments_of, pairs_of, term_of};
+ghost use Rattle.lotos_base.specs.PlainView.{arguments_of, pairs_of_values, term_of_plain};
 ghost use Rattle.lotos_base.specs.Sorting.{AreGround, IsGround, Occurs, OccursAmong};
 ghost use Rattle.lotos_base.specs.Substitution.{all_substituted, binding, substituted};
 ghost use Rattle.lotos_base.specs.Term.{variable};
@@ -27,7 +27,7 @@ impl PlainTerm {
     /// Whether the two terms are identical.
     #[cycle(identity)]
     pub fn same(&self, other: &PlainTerm) -> bool
-        ensures { IsTrue result ↔ (term_of self.now ≡ term_of other.now) }
+        ensures { IsTrue result ↔ (term_of_plain self.now ≡ term_of_plain other.now) }
     {
         match self {
             PlainTerm::Variable { number, sort } => other.is_variable(*number, *sort),
@@ -47,7 +47,7 @@ impl PlainTerm {
     /// Whether the term has no variable.
     #[cycle(ground)]
     pub fn is_ground(&self) -> bool
-        ensures { IsTrue result ↔ IsGround (term_of self.now) }
+        ensures { IsTrue result ↔ IsGround (term_of_plain self.now) }
     {
         match self {
             PlainTerm::Variable { .. } => false,
@@ -58,7 +58,7 @@ impl PlainTerm {
     /// Whether the variable with this number and sort occurs in the term.
     #[cycle(occurrence)]
     pub fn has_variable(&self, number: u64, sort: u32) -> bool
-        ensures { IsTrue result ↔ Occurs number sort (term_of self.now) }
+        ensures { IsTrue result ↔ Occurs number sort (term_of_plain self.now) }
     {
         match self {
             PlainTerm::Variable { number: n, sort: s } => *n == number && *s == sort,
@@ -68,7 +68,7 @@ impl PlainTerm {
 
     // Whether the term is the variable with this number and sort.
     fn is_variable(&self, number: u64, sort: u32) -> bool
-        ensures { IsTrue result ↔ (variable number sort ≡ term_of self.now) }
+        ensures { IsTrue result ↔ (variable number sort ≡ term_of_plain self.now) }
     {
         match self {
             PlainTerm::Variable { number: n, sort: s } => number == *n && sort == *s,
@@ -78,7 +78,8 @@ impl PlainTerm {
 
     /// The subterm at the path of argument positions, counted from 0, if the path leads to one.
     pub fn subterm(&self, path: &[usize]) -> Option<&PlainTerm>
-        ensures { option_map (λ t. term_of t.now) result ≡ subterm_at path.now (term_of self.now) }
+        ensures { option_map (λ t. term_of_plain t.now) result
+            ≡ subterm_at path.now (term_of_plain self.now) }
     {
         let mut part = self;
         for position in path {
@@ -94,8 +95,8 @@ impl PlainTerm {
         part: &PlainTerm,
     ) -> Result<Option<PlainTerm>, AllocError>
         ensures { IfOk result
-            (λ o. option_map (λ t. term_of t) o
-            ≡ put_at path.now (term_of part.now) (term_of self.now)) }
+            (λ o. option_map (λ t. term_of_plain t) o
+            ≡ put_at path.now (term_of_plain part.now) (term_of_plain self.now)) }
     {
         let [position, rest @ ..] = path else {
             return Ok(Some(part.copy()?));
@@ -124,7 +125,8 @@ impl PlainTerm {
     #[cycle(instance)]
     pub fn instance(&self, values: &[(u64, PlainTerm)]) -> Result<PlainTerm, AllocError>
         ensures { IfOk result
-            (λ t. term_of t ≡ substituted (binding (pairs_of values.now)) (term_of self.now)) }
+            (λ t. term_of_plain t ≡ substituted (binding (pairs_of_values values.now))
+            (term_of_plain self.now)) }
     {
         match self {
             PlainTerm::Variable { number, sort } => value_of(*number, *sort, values),
@@ -141,7 +143,7 @@ impl PlainTerm {
     /// The same term.
     #[cycle(copies)]
     pub fn copy(&self) -> Result<PlainTerm, AllocError>
-        ensures { IfOk result (λ t. term_of t ≡ term_of self.now) }
+        ensures { IfOk result (λ t. term_of_plain t ≡ term_of_plain self.now) }
     {
         match self {
             PlainTerm::Variable { number, sort } => Ok(PlainTerm::Variable {
@@ -160,8 +162,8 @@ impl PlainTerm {
 
     // The argument at the position, if there is one.
     fn argument(&self, position: usize) -> Option<&PlainTerm>
-        ensures { option_map (λ t. term_of t.now) result
-            ≡ subterm_at (position ∷ []) (term_of self.now) }
+        ensures { option_map (λ t. term_of_plain t.now) result
+            ≡ subterm_at (position ∷ []) (term_of_plain self.now) }
     {
         match self {
             PlainTerm::Variable { .. } => None,
@@ -219,7 +221,7 @@ fn instances(
     values: &[(u64, PlainTerm)],
 ) -> Result<Vec<PlainTerm>, AllocError>
     ensures { IfOk result (λ ts. arguments_of ts.items
-        ≡ all_substituted (binding (pairs_of values.now)) (arguments_of terms.now.items)) }
+        ≡ all_substituted (binding (pairs_of_values values.now)) (arguments_of terms.now.items)) }
 {
     let mut made = Vec::with_capacity(*terms.allocator(), terms.len())?;
     for term in terms {
@@ -248,7 +250,7 @@ fn with_argument(
 ) -> Result<Vec<PlainTerm>, AllocError>
     requires { position < length terms.now.items }
     ensures { IfOk result (λ ts. arguments_of ts.items
-        ≡ argument_put position (term_of part) (arguments_of terms.now.items)) }
+        ≡ argument_put position (term_of_plain part) (arguments_of terms.now.items)) }
 {
     let mut made = copies(terms)?;
     made[position] = part;
@@ -257,7 +259,8 @@ fn with_argument(
 
 // What the values put for the variable with this number and sort.
 fn value_of(number: u64, sort: u32, values: &[(u64, PlainTerm)]) -> Result<PlainTerm, AllocError>
-    ensures { IfOk result (λ t. term_of t ≡ binding (pairs_of values.now) number sort) }
+    ensures { IfOk result (λ t. term_of_plain t
+        ≡ binding (pairs_of_values values.now) number sort) }
 {
     for (known, value) in values {
         if *known == number {

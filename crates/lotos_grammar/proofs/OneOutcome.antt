@@ -9,25 +9,25 @@ use Rattle.text_depth.specs.HandedOn.{IsTypesReading, IsTypesFault}
 use Rattle.text_depth.proofs.HandedOn.{all_have_one_outcome}
 use Rattle.lotos_grammar.specs.TextFault.{TextFault}
 use Rattle.lotos_grammar.proofs.MisreadTexts.{never_misread, misread_once}
-use Rattle.lotos_grammar.specs.Gathering.{next_text, library_file, Gathered, with_library, Waiting, item, GotFile, misread, GatheringOutcome, faulty, TextOf, shipped, in_file, IsMisread, Step, goes_on, stops, MentionComesTo, read_before, one_too_many, in_place, not_read, no_file, wanted_before_text, wanted_behind_text, Becomes, nothing_waits, a_type, mentions, then, ends, memory_ends}
+use Rattle.lotos_grammar.specs.Gathering.{next_text, library_file, Gathered, with_library, Waiting, item, GotFile, misread, GatheringOutcome, faulty, TextOf, shipped, in_file, IsMisread, GatheringStep, goes_on, stops, MentionComesTo, read_before, one_too_many, in_place, not_read, no_file, wanted_before_text, wanted_behind_text, Becomes, nothing_waits, a_type, mentions, then, ends, memory_ends}
 use Rattle.lotos_grammar.specs.GatheringLaws.{Files, AreGotFrom, LacksFrom, OutcomesAreOne}
 
 -- ---- Steps
 
-abbrev pub StepLacks : Files → Step → Type 0
+abbrev pub StepLacks : Files → GatheringStep → Type 0
 StepLacks got (goes_on so_far items) = Unit {0}
 StepLacks got (stops outcome) = LacksFrom got outcome
 
-abbrev IsGoing : Step → Type 0
+abbrev IsGoing : GatheringStep → Type 0
 IsGoing (goes_on so_far items) = Unit {0}
 IsGoing (stops outcome) = ⊥
 
-abbrev outcome_in : GatheringOutcome → Step → GatheringOutcome
+abbrev outcome_in : GatheringOutcome → GatheringStep → GatheringOutcome
 outcome_in other (goes_on so_far items) = other
 outcome_in other (stops outcome) = outcome
 
 -- what comes of a step and what waits behind it
-abbrev pub Goes : Step → List Waiting → List GotFile → GatheringOutcome → Type 0
+abbrev pub Goes : GatheringStep → List Waiting → List GotFile → GatheringOutcome → Type 0
 Goes (goes_on next items) rest files outcome = Becomes next (map item items ++ rest) files outcome
 Goes (stops stopped) rest files outcome = ⊥
 
@@ -83,10 +83,10 @@ fault_one number text other fault also same is too =
 
 -- ---- A mention
 
-abbrev stopped_at : Gathered → PlacedName → TextFault → Step
+abbrev stopped_at : Gathered → PlacedName → TextFault → GatheringStep
 stopped_at so_far at fault = stops (faulty (with_library at.name so_far).read (misread (next_text so_far.read) fault))
 
-pub mentioned_one : (got : Files) {so_far : Gathered} {at : PlacedName} {files others : List GotFile} {one other : Step} →
+pub mentioned_one : (got : Files) {so_far : Gathered} {at : PlacedName} {files others : List GotFile} {one other : GatheringStep} →
     MentionComesTo so_far at files one → MentionComesTo so_far at others other → AreGotFrom got files → AreGotFrom got others →
     StepLacks got one → StepLacks got other → (files ≡ others) × (one ≡ other)
 mentioned_one got (read_before h) (read_before k) all both lack lacks = (refl, refl)
@@ -136,10 +136,10 @@ pub joined : {f g l m : List GotFile} → f ≡ g → l ≡ m → f ++ l ≡ g +
 joined {f = f} {m = m} e h = ap (λ (x : List GotFile). f ++ x) h ∙ ap (λ (x : List GotFile). x ++ m) e
 
 outcome_one : {one other : GatheringOutcome} → stops one ≡ stops other → one ≡ other
-outcome_one {one = one} e = ap (λ (s : Step). outcome_in one s) e
+outcome_one {one = one} e = ap (λ (s : GatheringStep). outcome_in one s) e
 
 pub going : (next : Gathered) (items : List WrittenItem) (outcome : GatheringOutcome) → goes_on next items ≡ stops outcome → ⊥
-going next items outcome e = subst (λ (s : Step). IsGoing s) e tt
+going next items outcome e = subst (λ (s : GatheringStep). IsGoing s) e tt
 
 becomes_one : (got : Files) {so_far : Gathered} {waiting : List Waiting} {files others : List GotFile} {one other : GatheringOutcome} →
     Becomes so_far waiting files one → Becomes so_far waiting others other → AreGotFrom got files → AreGotFrom got others →
@@ -150,7 +150,7 @@ becomes_one got (mentions is) (mentions also) all both lack lacks = becomes_one 
 becomes_one got (then {next = next} {rest = rest} {files = f} {later = l} {items = items} m is)
     (then {files = g} {later = k} {outcome = outcome} n also) all both lack lacks =
     let first = mentioned_one got m n (front got f l all) (front got g k both) tt tt in
-    let later = becomes_one got is (subst (λ (s : Step). Goes s rest k outcome) (sym first.1) also)
+    let later = becomes_one got is (subst (λ (s : GatheringStep). Goes s rest k outcome) (sym first.1) also)
     (back got f l all) (back got g k both) lack lacks in
     (joined first.0 later.0, later.1)
 becomes_one got (then {files = f} {later = l} m is) (ends n) all both lack lacks =

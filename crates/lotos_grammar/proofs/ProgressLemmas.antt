@@ -22,7 +22,7 @@ use Rattle.lotos_grammar.specs.Gathering.{
   without_file,
   too_many,
   misread,
-  Step,
+  GatheringStep,
   goes_on,
   stops,
   MentionComesTo,

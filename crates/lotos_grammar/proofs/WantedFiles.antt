@@ -2,7 +2,7 @@
 use Rattle.std.proofs.Common.{refl, ap, sym, ◌∙◌, ◌≡◌, subst, ℕ, List, [], ◌++◌, append_assoc, append-nil, arith}
 use Rattle.std.proofs.lemmas.Bool.{both_ways}
 use Rattle.lotos_base.specs.WrittenTerm.{PlacedName}
-use Rattle.lotos_grammar.specs.Gathering.{Gathered, Waiting, GotFile, GatheringOutcome, memory_wanted, TextOf, IsNextLibrary, Step, stops, MentionComesTo, read_before, one_too_many, in_place, not_read, no_file, wanted_before_text, wanted_behind_text, Becomes, nothing_waits, a_type, mentions, then, ends, memory_ends}
+use Rattle.lotos_grammar.specs.Gathering.{Gathered, Waiting, GotFile, GatheringOutcome, memory_wanted, TextOf, IsNextLibrary, GatheringStep, stops, MentionComesTo, read_before, one_too_many, in_place, not_read, no_file, wanted_before_text, wanted_behind_text, Becomes, nothing_waits, a_type, mentions, then, ends, memory_ends}
 use Rattle.lotos_grammar.specs.GatheringLaws.{Files, AreGotFrom, LacksFrom, WantedFilesComeFirst}
 use Rattle.lotos_grammar.proofs.OneOutcome.{StepLacks, Goes, front, back, text_one, text_there, mentioned_one, joined, going}
 
@@ -18,7 +18,7 @@ begins_more files others later is =
     (is.0 ++ later, ap (λ (x : List GotFile). x ++ later) is.1 ∙ append_assoc files is.0 later)
 
 -- the text of a library that is read next is got for its mention
-behind_text : (got : Files) {so_far : Gathered} {at : PlacedName} {files others : List GotFile} {text : List ℕ} {step : Step} →
+behind_text : (got : Files) {so_far : Gathered} {at : PlacedName} {files others : List GotFile} {text : List ℕ} {step : GatheringStep} →
     IsNextLibrary so_far.read at.name → TextOf at.name files text → AreGotFrom got files → MentionComesTo so_far at others step →
     AreGotFrom got others → StepLacks got step → files ≡ others
 behind_text got next text all (read_before h) both lacks = absurd (both_ways _ next.new h)
@@ -29,7 +29,7 @@ behind_text got next text all (no_file also none) both lacks = absurd (text_ther
 behind_text got next text all wanted_before_text both lacks = absurd lacks
 behind_text got next text all (wanted_behind_text also other) both lacks = absurd lacks
 
-mention_first : (got : Files) {so_far : Gathered} {at : PlacedName} {files others : List GotFile} {step : Step} →
+mention_first : (got : Files) {so_far : Gathered} {at : PlacedName} {files others : List GotFile} {step : GatheringStep} →
     MentionComesTo so_far at files (stops memory_wanted) → AreGotFrom got files → MentionComesTo so_far at others step →
     AreGotFrom got others → StepLacks got step → BeginsWith files others
 mention_first got {others = others} wanted_before_text all n both lacks = (others, refl)
@@ -45,7 +45,7 @@ wanted_first got (mentions is) all (mentions also) both lacks = wanted_first got
 wanted_first got (then {rest = rest} {files = f} {later = l} m is) all (then {files = g} {later = k} {outcome = outcome} n also) both lacks
     =
     let first = mentioned_one got m n (front got f l all) (front got g k both) tt tt in
-    let later = wanted_first got is (back got f l all) (subst (λ (s : Step). Goes s rest k outcome) (sym first.1) also)
+    let later = wanted_first got is (back got f l all) (subst (λ (s : GatheringStep). Goes s rest k outcome) (sym first.1) also)
     (back got g k both) lacks in
     (later.0, joined (sym first.0) later.1 ∙ sym (append_assoc f l later.0))
 wanted_first got (then {files = f} {later = l} m is) all (ends n) both lacks =

@@ -100,13 +100,13 @@ abbrev pub IsMisread : ℕ → List ℕ → TextFault → Type 0
 IsMisread number text fault = TextIsMisread IsTypesFault number text fault
 
 -- what a mention comes to: these items stand in its place, and so much is gathered before they are looked at; or all ends
-pub data Step : Type 0 where
-  goes_on : Gathered → List WrittenItem → Step
-  stops : GatheringOutcome → Step
+pub data GatheringStep : Type 0 where
+  goes_on : Gathered → List WrittenItem → GatheringStep
+  stops : GatheringOutcome → GatheringStep
 
 -- what a mention of a library comes to, where so much is gathered and the shelf gives these files. A library that was read
 -- is passed over. Memory may be wanted before its text is there, and behind that
-pub data MentionComesTo (so_far : Gathered) (at : PlacedName) : List GotFile → Step → Type 0 where
+pub data MentionComesTo (so_far : Gathered) (at : PlacedName) : List GotFile → GatheringStep → Type 0 where
   read_before : is_read so_far.read at.name ≡ true → MentionComesTo so_far at [] (goes_on so_far [])
   one_too_many :
       is_read so_far.read at.name ≡ false → library_limit ≤ length so_far.read →

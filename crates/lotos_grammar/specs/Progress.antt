@@ -20,7 +20,7 @@ use Rattle.lotos_grammar.specs.Gathering.{
   memory_wanted,
   too_many,
   misread,
-  Step,
+  GatheringStep,
   goes_on,
   stops,
   IsMisread,

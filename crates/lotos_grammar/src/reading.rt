@@ -4,7 +4,7 @@ ghost use Rattle.lotos_base.specs.Limits.{text_limit};
 ghost use Rattle.lotos_base.specs.WrittenView.{listed_operation_of, written_term_of};
 ghost use Rattle.std.specs.Prelude.{◌≡◌, ◌+◌, ◌<◌, ◌≤◌, ◌^◌, IfErr, IfOk, MatchResult, length, map};
 ghost use Rattle.syntax_trees.specs.ReadableTrees.{AreReadableItems, IsReadableSpecification};
-ghost use Rattle.syntax_trees.specs.TreeViews.{item_of, specification_of};
+ghost use Rattle.syntax_trees.specs.TreeViews.{item_of, written_specification_of};
 ghost use Rattle.text_depth.specs.HandedOn.{
   IsOrderReadFault,
   IsOrderReading,
@@ -47,9 +47,10 @@ fn within_limit(text: &[u8]) -> Result<(), ReadFault>
 /// has a gate, and an equation has an arrow exactly where it has premisses.
 pub fn read_spec(alloc: Global, text: &[u8], number: u32) -> Result<SpecText, ReadFault>
     ensures answer { MatchResult result
-        (λ spec. IsSpecificationReading number text.now (specification_of spec))
+        (λ spec. IsSpecificationReading number text.now (written_specification_of spec))
         (IsSpecificationFault number text.now) }
-    ensures readable { IfOk result (λ spec. IsReadableSpecification (specification_of spec)) }
+    ensures readable { IfOk result
+        (λ spec. IsReadableSpecification (written_specification_of spec)) }
 {
     within_limit(text)?;
     let Derived { tokens, rows } = derive(alloc, text, number, TextKind::Specification)?;

@@ -18,7 +18,7 @@ use Rattle.lotos_lexer.specs.declared.positions.Position.{Position}
 use Rattle.lotos_lexer.specs.declared.tokens.Token.{Token}
 use Rattle.lotos_lexer.specs.Bytes.{first_is, is_blank, is_sign, begins_with}
 use Rattle.lotos_lexer.specs.Spellings.{Spelling, reserved_words, operators, reserved_runs, single_signs}
-use Rattle.lotos_lexer.specs.Lexemes.{word_length, word_kind_in, kind_in, lexeme_of, spelling_at, word, digit_name, operator, closing, run, single_sign, lexeme_at}
+use Rattle.lotos_lexer.specs.Lexemes.{word_length, word_kind_in, kind_in, lexeme_of, spelling_at, word, digit_name, operator, closing, run_of_signs, single_sign, lexeme_at}
 use Rattle.lotos_lexer.specs.Pieces.{comment, close_at, token, piece_at}
 use Rattle.lotos_lexer.specs.Tokens.{Lexed, Tokens, BadByte, OpenComment, with_token, behind, start, token_at, cut, tokens_of, list_open_behind}
 use Rattle.lotos_lexer.specs.Kinds.{spelling_kinds, token_kinds, KindsAreDistinct, KindsAreBelowTheCount, ReservedWordsAreApart, TokensHaveKinds}
@@ -167,16 +167,16 @@ or_kind (Some lexeme) other first second = first
 lexeme_kind : (open_list : Bool) (bytes : List ℕ) → HasKind (lexeme_at open_list bytes)
 lexeme_kind open_list bytes =
     or_kind (word bytes) (option_or (digit_name bytes) (option_or (operator bytes)
-    (option_or (closing open_list bytes) (option_or (run bytes) (single_sign bytes)))))
+    (option_or (closing open_list bytes) (option_or (run_of_signs bytes) (single_sign bytes)))))
     (if_there (first_is is_ascii_alphabetic bytes) _ (word_kind reserved_words (take (word_length bytes) bytes) refl))
     (or_kind (digit_name bytes) (option_or (operator bytes)
-    (option_or (closing open_list bytes) (option_or (run bytes) (single_sign bytes))))
+    (option_or (closing open_list bytes) (option_or (run_of_signs bytes) (single_sign bytes))))
     (if_there (first_is is_ascii_digit bytes) _ (omega arith))
-    (or_kind (operator bytes) (option_or (closing open_list bytes) (option_or (run bytes) (single_sign bytes)))
+    (or_kind (operator bytes) (option_or (closing open_list bytes) (option_or (run_of_signs bytes) (single_sign bytes)))
     (spelling_kind operators bytes refl)
-    (or_kind (closing open_list bytes) (option_or (run bytes) (single_sign bytes))
+    (or_kind (closing open_list bytes) (option_or (run_of_signs bytes) (single_sign bytes))
     (if_there (open_list && begins_with (codes "]|") bytes) _ (omega arith))
-    (or_kind (run bytes) (single_sign bytes)
+    (or_kind (run_of_signs bytes) (single_sign bytes)
     (if_there (first_is is_sign bytes) _ (run_kind reserved_runs (take (prefix_len is_sign bytes) bytes) SIGN_NAME refl (omega arith)))
     (spelling_kind single_signs bytes refl)))))
 

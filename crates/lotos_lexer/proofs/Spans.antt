@@ -10,7 +10,7 @@ use Rattle.lotos_lexer.specs.declared.lexemes.Lexeme.{Lexeme}
 use Rattle.lotos_lexer.specs.Bytes.{begins_with, is_sign, IsSpan}
 use Rattle.lotos_lexer.specs.Spellings.{Spelling, reserved_words, reserved_runs, operators, single_signs}
 use Rattle.lotos_lexer.specs.declared.kinds.TheConstants.{NAME, DIGIT_NAME, SIGN_NAME, GATES_CLOSE}
-use Rattle.lotos_lexer.specs.Lexemes.{word_length, underscore_before, spelling_at, kind_in, word_kind_in, word, digit_name, operator, closing, run, lexeme_at}
+use Rattle.lotos_lexer.specs.Lexemes.{word_length, underscore_before, spelling_at, kind_in, word_kind_in, word, digit_name, operator, closing, run_of_signs, lexeme_at}
 use Rattle.lotos_base.proofs.Bytes.{letter_or_digit, digit_or_letter}
 
 -- the lexeme, if there is one, spans some of the bytes
@@ -26,7 +26,7 @@ underscore_before-le : (more : ℕ) → underscore_before more ≤ suc more
 underscore_before-le zero = omega arith
 underscore_before-le (suc more) = omega arith
 
-word_length-le : (bytes : List ℕ) → word_length bytes ≤ length bytes
+pub word_length-le : (bytes : List ℕ) → word_length bytes ≤ length bytes
 word_length-le [] = omega arith
 word_length-le (byte ∷ rest) =
     let below : word_length rest ≤ length rest = word_length-le rest in
@@ -103,7 +103,7 @@ closing-spans true bytes = go (begins_with (codes "]|") bytes) refl
     go true same = (lit< tt, begins_with-le (codes "]|") bytes same)
     go false same = tt
 
-run-spans : (bytes : List ℕ) → LexemeSpans (run bytes) bytes
+run-spans : (bytes : List ℕ) → LexemeSpans (run_of_signs bytes) bytes
 run-spans [] = tt
 run-spans (byte ∷ rest) = go (is_sign byte) refl
   where
@@ -129,5 +129,5 @@ lexeme_at_spans open_list bytes =
     (option_or-spans (digit_name bytes) _ bytes (digit_name-spans bytes)
     (option_or-spans (operator bytes) _ bytes (spelling_at-spans operators bytes operators_have_bytes)
     (option_or-spans (closing open_list bytes) _ bytes (closing-spans open_list bytes)
-    (option_or-spans (run bytes) _ bytes (run-spans bytes)
+    (option_or-spans (run_of_signs bytes) _ bytes (run-spans bytes)
     (spelling_at-spans single_signs bytes single_signs_have_bytes)))))

@@ -64,8 +64,8 @@ abbrev pub closing : Bool → List ℕ → Option Lexeme
 closing open_list bytes = if open_list && begins_with (codes "]|") bytes then Some (lexeme_of GATES_CLOSE 2) else None
 
 -- a run of signs, as long as possible. It is a reserved one or else a name
-abbrev pub run : List ℕ → Option Lexeme
-run bytes =
+abbrev pub run_of_signs : List ℕ → Option Lexeme
+run_of_signs bytes =
     if first_is is_sign bytes
     then Some (lexeme_of (unwrap_or (kind_in reserved_runs (take (prefix_len is_sign bytes) bytes)) SIGN_NAME) (prefix_len is_sign bytes))
     else None
@@ -82,5 +82,5 @@ lexeme_at open_list bytes =
     (option_or (digit_name bytes)
     (option_or (operator bytes)
     (option_or (closing open_list bytes)
-    (option_or (run bytes)
+    (option_or (run_of_signs bytes)
     (single_sign bytes)))))

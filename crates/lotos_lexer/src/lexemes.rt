@@ -4,7 +4,7 @@ ghost use Rattle.std.specs.Prelude.{◌≡◌, ◌<◌, ◌≤◌, length, IfSom
 ghost use Rattle.std.specs.List.{prefix_len};
 ghost use Rattle.lotos_lexer.specs.Bytes.{is_sign, IsSpan};
 ghost use Rattle.lotos_lexer.specs.Spellings.{rows_of, reserved_words, reserved_runs, operators, single_signs};
-ghost use Rattle.lotos_lexer.specs.Lexemes.{word_length, kind_in, word_kind_in, spelling_at, word, digit_name, operator, closing, run, single_sign, lexeme_at};
+ghost use Rattle.lotos_lexer.specs.Lexemes.{word_length, kind_in, word_kind_in, spelling_at, word, digit_name, operator, closing, run_of_signs, single_sign, lexeme_at};
 
 use crate::kinds;
 use crate::spellings::{OPERATORS, RESERVED_RUNS, RESERVED_WORDS, SINGLE_SIGNS, Spelling};
@@ -132,7 +132,7 @@ fn find_closing(open_list: bool, bytes: &[u8]) -> Option<Lexeme>
 
 /// The run of signs that begins here.
 fn find_run(bytes: &[u8]) -> Option<Lexeme>
-    ensures { result ≡ run bytes.now }
+    ensures { result ≡ run_of_signs bytes.now }
 {
     if !is_sign_byte(*bytes.first()?) {
         return None;

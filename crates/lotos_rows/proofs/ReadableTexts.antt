@@ -7,14 +7,14 @@ use Rattle.syntax_trees.specs.WrittenEquation.{WrittenPremiss, WrittenEquation, 
 use Rattle.syntax_trees.specs.WrittenItem.{WrittenSections, WrittenTypeBody, WrittenItem}
 use Rattle.syntax_trees.specs.WrittenBehaviour.{WrittenGateChoice, WrittenBehaviour}
 use Rattle.syntax_trees.specs.WrittenDefinition.{WrittenInner, inners_of, WrittenSpecification}
-use Rattle.syntax_trees.specs.Strength.{PlacedSign, strength_of, joined}
+use Rattle.syntax_trees.specs.Strength.{PlacedSign, strength_of, joined_by_sign}
 use Rattle.syntax_trees.specs.Grouping.{IsGrouped, alone, split}
 use Rattle.syntax_trees.specs.ReadableTrees.{AllAre, IsParallel, HasGates, IsReadableBehaviour, HasArrowForPremisses, IsReadableGroup, AreReadableEquations, IsReadableTypeBody, IsReadableItem, AreReadableItems, IsReadableInner, AreReadableInners, IsReadableSpecification}
 use Rattle.lotos_rows.specs.Words.{Optional, left_out, there, Many, no_more, and_then, Separated, last, before_more, Behind, behind, between}
 use Rattle.lotos_rows.specs.Names.{AreNames, AreWrittenGates}
 use Rattle.lotos_rows.specs.Equations.{IsPremiss, IsWrittenEquation, without_premisses, with_premisses, IsEquationList, last_equation, ended_equation, more_equations, IsEquationGroup, group_of_sort, AreEquations, equations}
 use Rattle.lotos_rows.specs.Types.{no_equations, AreSections, sections, IsTypeBody, renaming, actualising, extending, extending_nothing, IsItem, a_library, a_type}
-use Rattle.lotos_rows.specs.Behaviours.{gate_choices_among, AreGateChoicesAmong, among, AreGateChoices, gate_choices, IsParallelSign, sign_interleaving, sign_full, sign_gates, before_first, AreOperands, hiding, letting, choosing_values, choosing_gates, parallel_over_gates, inner_prefix, guarding, acting, offering, last_operand, before_sign, IsAtom, stopping, exiting, calling, in_brackets, IsBehaviour, grouped_operands}
+use Rattle.lotos_rows.specs.Behaviours.{gate_choices_among, AreGateChoicesAmong, among, AreGateChoices, gate_choices, IsParallelSign, sign_interleaving, sign_full, sign_gates, before_first, AreOperands, hiding, letting, choosing_values, choosing_gates, parallel_over_gates, inner_prefix, guarding, acting, offering, last_operand, before_sign, IsAtom, stopping, exiting, calling, in_brackets, IsBehaviourText, grouped_operands}
 use Rattle.lotos_rows.specs.Definitions.{IsProcess, a_process, IsWhere, no_where, a_where, AreInner, no_more_inner, item_then, process_then}
 use Rattle.lotos_rows.specs.Starts.{AreItems, IsWrittenSpecification, a_specification}
 
@@ -136,7 +136,7 @@ sign_is (sign_gates left gates right) = tt
 -- ---- Behaviours
 
 grouped_has : {operands : List WrittenBehaviour} {signs : List PlacedSign} {behaviour : WrittenBehaviour}
-    → IsGrouped strength_of joined operands signs behaviour → AllAre IsReadableBehaviour operands → IsReadableBehaviour behaviour
+    → IsGrouped strength_of joined_by_sign operands signs behaviour → AllAre IsReadableBehaviour operands → IsReadableBehaviour behaviour
 grouped_has alone all = all.0
 grouped_has (split {operands = operands} {others = others} before after left right) all = (
   grouped_has left (all_first IsReadableBehaviour operands others all),
@@ -171,7 +171,7 @@ mutual
   atom_has (calling name gates values) = tt
   atom_has (in_brackets left inside right) = behaviour_has inside
 
-  behaviour_has : {text : List ℕ} {tokens : List Token} {behaviour : WrittenBehaviour} → IsBehaviour text tokens behaviour
+  behaviour_has : {text : List ℕ} {tokens : List Token} {behaviour : WrittenBehaviour} → IsBehaviourText text tokens behaviour
       → IsReadableBehaviour behaviour
   behaviour_has (grouped_operands operands grouped) = grouped_has grouped (operands_have operands)
 

@@ -27,9 +27,9 @@ use Rattle.lotos_lexer.specs.declared.tokens.Token.{Token}
 use Rattle.syntax_trees.specs.WrittenVariable.{WrittenVariable}
 use Rattle.syntax_trees.specs.WrittenEquation.{WrittenPremiss}
 use Rattle.syntax_trees.specs.WrittenBehaviour.{choice_sign, interleaving, full_synchronisation, synchronising, disabling, enabling, WrittenGateChoice, WrittenExitValue, exit_term, exit_any, WrittenOffer, offer_value, offer_variable, WrittenBehaviour, stop, exit, call, action, inner_action, guard, hide, let_be, choose_value, choose_gate, par_gate}
-use Rattle.syntax_trees.specs.Strength.{PlacedSign, strength_of, joined}
+use Rattle.syntax_trees.specs.Strength.{PlacedSign, strength_of, joined_by_sign}
 use Rattle.syntax_trees.specs.Grouping.{IsGrouped}
-use Rattle.lotos_rows.specs.Words.{IsOf, Optional, Many, Separated, Between}
+use Rattle.lotos_rows.specs.Words.{IsOfKind, Optional, Many, Separated, Between}
 use Rattle.lotos_rows.specs.Names.{place_of, spelled, named, AreNames, AreOptionalNames, AreWrittenGates, AreOptionalGates, variables_of_sort, AreVariables}
 use Rattle.lotos_rows.specs.Terms.{IsTerm, AreArguments}
 use Rattle.lotos_rows.specs.Equations.{IsPremiss}
@@ -41,7 +41,7 @@ variable_named variable sort = record { place = variable.place; name = variable.
 -- letdecl = name ":" name "=" term
 pub data IsLetDeclaration (text : List ℕ) : List Token → WrittenVariable × WrittenTerm → Type 0 where
   let_declaration : {variable colon sort equals : Token} {tokens : List Token} {term : WrittenTerm} →
-      IsOf NAME variable → IsOf COLON colon → IsOf NAME sort → IsOf EQUALS equals → IsTerm text tokens term →
+      IsOfKind NAME variable → IsOfKind COLON colon → IsOfKind NAME sort → IsOfKind EQUALS equals → IsTerm text tokens term →
       IsLetDeclaration text (variable ∷ colon ∷ sort ∷ equals ∷ tokens) (variable_named (named text variable) (named text sort), term)
 
 -- a declaration for each of the names, among the gates
@@ -51,7 +51,7 @@ gate_choices_among names gates = map (λ name. record { place = name.place; name
 -- names "in" gates
 pub data AreGateChoicesAmong (text : List ℕ) : List Token → List WrittenGateChoice → Type 0 where
   among : {tokens rest : List Token} {word : Token} {names gates : List PlacedName} →
-      AreNames text tokens names → IsOf IN word → AreWrittenGates text rest gates →
+      AreNames text tokens names → IsOfKind IN word → AreWrittenGates text rest gates →
       AreGateChoicesAmong text (tokens ++ word ∷ rest) (gate_choices_among names gates)
 
 -- gdecls = names "in" gates { "," names "in" gates }
@@ -62,39 +62,40 @@ pub data AreGateChoices (text : List ℕ) : List Token → List WrittenGateChoic
 -- offer = "!" term | "?" names ":" name, with an offer for each of the names
 pub data IsWrittenOffer (text : List ℕ) : List Token → List WrittenOffer → Type 0 where
   giving : {mark : Token} {tokens : List Token} {term : WrittenTerm} →
-      IsOf EXCLAMATION mark → IsTerm text tokens term → IsWrittenOffer text (mark ∷ tokens) (offer_value term ∷ [])
+      IsOfKind EXCLAMATION mark → IsTerm text tokens term → IsWrittenOffer text (mark ∷ tokens) (offer_value term ∷ [])
   asking : {mark colon sort : Token} {tokens : List Token} {names : List PlacedName} →
-      IsOf QUESTION mark → AreNames text tokens names → IsOf COLON colon → IsOf NAME sort →
+      IsOfKind QUESTION mark → AreNames text tokens names → IsOfKind COLON colon → IsOfKind NAME sort →
       IsWrittenOffer text (mark ∷ (tokens ++ colon ∷ sort ∷ [])) (map offer_variable (variables_of_sort names (named text sort)))
 
 -- "[" premiss "]"
 pub data IsSelection (text : List ℕ) : List Token → Option WrittenPremiss → Type 0 where
   selection : {left right : Token} {tokens : List Token} {test : WrittenPremiss} →
-      IsOf LEFT_BRACKET left → IsPremiss text tokens test → IsOf RIGHT_BRACKET right →
+      IsOfKind LEFT_BRACKET left → IsPremiss text tokens test → IsOfKind RIGHT_BRACKET right →
       IsSelection text (left ∷ (tokens ++ right ∷ [])) (Some test)
 
 -- exitval = "any" name | term
 pub data IsWrittenExitValue (text : List ℕ) : List Token → WrittenExitValue → Type 0 where
-  any_value : {word sort : Token} → IsOf ANY word → IsOf NAME sort → IsWrittenExitValue text (word ∷ sort ∷ []) (exit_any (named text sort))
+  any_value : {word sort : Token} → IsOfKind ANY word → IsOfKind NAME sort
+      → IsWrittenExitValue text (word ∷ sort ∷ []) (exit_any (named text sort))
   value_given : {tokens : List Token} {term : WrittenTerm} → IsTerm text tokens term → IsWrittenExitValue text tokens (exit_term term)
 
 -- parsign = "|||" | "||" | "|[" [names] "]|"
 pub data IsParallelSign (text : List ℕ) : List Token → PlacedSign → Type 0 where
-  sign_interleaving : {sign : Token} → IsOf INTERLEAVING sign →
+  sign_interleaving : {sign : Token} → IsOfKind INTERLEAVING sign →
       IsParallelSign text (sign ∷ []) (record { place = place_of sign; sign = interleaving })
-  sign_full : {sign : Token} → IsOf FULL_SYNCHRONISATION sign →
+  sign_full : {sign : Token} → IsOfKind FULL_SYNCHRONISATION sign →
       IsParallelSign text (sign ∷ []) (record { place = place_of sign; sign = full_synchronisation })
   sign_gates : {left right : Token} {tokens : List Token} {gates : List PlacedName} →
-      IsOf GATES_OPEN left → AreOptionalNames text tokens gates → IsOf GATES_CLOSE right →
+      IsOfKind GATES_OPEN left → AreOptionalNames text tokens gates → IsOfKind GATES_CLOSE right →
       IsParallelSign text (left ∷ (tokens ++ right ∷ [])) (record { place = place_of left; sign = synchronising gates })
 
 -- sign = "[]" | parsign | "[>" | ">>" [ "accept" vars "in" ]
 pub data IsSign (text : List ℕ) : List Token → PlacedSign → Type 0 where
-  sign_choice : {sign : Token} → IsOf CHOICE_SIGN sign → IsSign text (sign ∷ []) (record { place = place_of sign; sign = choice_sign })
+  sign_choice : {sign : Token} → IsOfKind CHOICE_SIGN sign → IsSign text (sign ∷ []) (record { place = place_of sign; sign = choice_sign })
   sign_parallel : {tokens : List Token} {sign : PlacedSign} → IsParallelSign text tokens sign → IsSign text tokens sign
-  sign_disabling : {sign : Token} → IsOf DISABLING sign → IsSign text (sign ∷ []) (record { place = place_of sign; sign = disabling })
+  sign_disabling : {sign : Token} → IsOfKind DISABLING sign → IsSign text (sign ∷ []) (record { place = place_of sign; sign = disabling })
   sign_enabling : {sign : Token} {tokens : List Token} {accepted : List WrittenVariable} →
-      IsOf ENABLING sign → Optional [] (Between ACCEPT IN (AreVariables text)) tokens accepted →
+      IsOfKind ENABLING sign → Optional [] (Between ACCEPT IN (AreVariables text)) tokens accepted →
       IsSign text (sign ∷ tokens) (record { place = place_of sign; sign = enabling accepted })
 
 -- the first operand with something in front of it; the others stay
@@ -106,39 +107,42 @@ mutual
   -- beh, as the operands and the signs between them
   pub data AreOperands (text : List ℕ) : List Token → List WrittenBehaviour → List PlacedSign → Type 0 where
     hiding : {word in_ : Token} {name_tokens tokens : List Token} {gates : List PlacedName} {inside : WrittenBehaviour} →
-        IsOf HIDE word → AreNames text name_tokens gates → IsOf IN in_ → IsBehaviour text tokens inside →
+        IsOfKind HIDE word → AreNames text name_tokens gates → IsOfKind IN in_ → IsBehaviourText text tokens inside →
         AreOperands text (word ∷ (name_tokens ++ in_ ∷ tokens)) (hide (place_of word) gates inside ∷ []) []
     letting : {word in_ : Token} {value_tokens tokens : List Token} {values : List (WrittenVariable × WrittenTerm)}
         {inside : WrittenBehaviour} →
-        IsOf LET word → Separated COMMA (IsLetDeclaration text) value_tokens values → IsOf IN in_ → IsBehaviour text tokens inside →
+        IsOfKind LET word → Separated COMMA (IsLetDeclaration text) value_tokens values → IsOfKind IN in_
+        → IsBehaviourText text tokens inside →
         AreOperands text (word ∷ (value_tokens ++ in_ ∷ tokens)) (let_be (place_of word) values inside ∷ []) []
     choosing_values : {word sign : Token} {variable_tokens tokens : List Token} {variables : List WrittenVariable}
         {inside : WrittenBehaviour} →
-        IsOf CHOICE word → AreVariables text variable_tokens variables → IsOf CHOICE_SIGN sign → IsBehaviour text tokens inside →
+        IsOfKind CHOICE word → AreVariables text variable_tokens variables → IsOfKind CHOICE_SIGN sign
+        → IsBehaviourText text tokens inside →
         AreOperands text (word ∷ (variable_tokens ++ sign ∷ tokens)) (choose_value (place_of word) variables inside ∷ []) []
     choosing_gates : {word sign : Token} {gate_tokens tokens : List Token} {gates : List WrittenGateChoice} {inside : WrittenBehaviour} →
-        IsOf CHOICE word → AreGateChoices text gate_tokens gates → IsOf CHOICE_SIGN sign → IsBehaviour text tokens inside →
+        IsOfKind CHOICE word → AreGateChoices text gate_tokens gates → IsOfKind CHOICE_SIGN sign → IsBehaviourText text tokens inside →
         AreOperands text (word ∷ (gate_tokens ++ sign ∷ tokens)) (choose_gate (place_of word) gates inside ∷ []) []
     parallel_over_gates : {word : Token} {gate_tokens sign_tokens tokens : List Token} {gates : List WrittenGateChoice} {sign : PlacedSign}
         {inside : WrittenBehaviour} →
-        IsOf PAR word → AreGateChoices text gate_tokens gates → IsParallelSign text sign_tokens sign → IsBehaviour text tokens inside →
+        IsOfKind PAR word → AreGateChoices text gate_tokens gates → IsParallelSign text sign_tokens sign
+        → IsBehaviourText text tokens inside →
         AreOperands text (word ∷ (gate_tokens ++ (sign_tokens ++ tokens))) (par_gate (place_of word) gates sign.sign inside ∷ []) []
     inner_prefix : {word semicolon : Token} {tokens : List Token} {operands : List WrittenBehaviour} {signs : List PlacedSign} →
-        IsOf I word → IsOf SEMICOLON semicolon → AreOperands text tokens operands signs →
+        IsOfKind I word → IsOfKind SEMICOLON semicolon → AreOperands text tokens operands signs →
         AreOperands text (word ∷ semicolon ∷ tokens) (before_first (inner_action (place_of word)) operands) signs
     guarding : {left right arrow : Token} {test_tokens tokens : List Token} {test : WrittenPremiss} {operands : List WrittenBehaviour}
         {signs : List PlacedSign} →
-        IsOf LEFT_BRACKET left → IsPremiss text test_tokens test → IsOf RIGHT_BRACKET right → IsOf ARROW arrow
+        IsOfKind LEFT_BRACKET left → IsPremiss text test_tokens test → IsOfKind RIGHT_BRACKET right → IsOfKind ARROW arrow
         → AreOperands text tokens operands signs →
         AreOperands text (left ∷ (test_tokens ++ right ∷ arrow ∷ tokens)) (before_first (guard (place_of left) test) operands) signs
     acting : {gate semicolon : Token} {tokens : List Token} {operands : List WrittenBehaviour} {signs : List PlacedSign} →
-        IsOf NAME gate → IsOf SEMICOLON semicolon → AreOperands text tokens operands signs →
+        IsOfKind NAME gate → IsOfKind SEMICOLON semicolon → AreOperands text tokens operands signs →
         AreOperands text (gate ∷ semicolon ∷ tokens) (before_first (action (place_of gate) (spelled text gate) [] None) operands) signs
     offering : {gate semicolon : Token} {first_tokens offer_tokens test_tokens tokens : List Token} {first : List WrittenOffer}
         {offers : List (List WrittenOffer)} {test : Option WrittenPremiss} {operands : List WrittenBehaviour} {signs : List PlacedSign} →
-        IsOf NAME gate → IsWrittenOffer text first_tokens first → Many (IsWrittenOffer text) offer_tokens offers
+        IsOfKind NAME gate → IsWrittenOffer text first_tokens first → Many (IsWrittenOffer text) offer_tokens offers
         → Optional None (IsSelection text) test_tokens test →
-        IsOf SEMICOLON semicolon → AreOperands text tokens operands signs →
+        IsOfKind SEMICOLON semicolon → AreOperands text tokens operands signs →
         AreOperands text (gate ∷ (first_tokens ++ (offer_tokens ++ (test_tokens ++ semicolon ∷ tokens))))
         (before_first (action (place_of gate) (spelled text gate) (first ++ flat_map (λ group. group) offers) test) operands) signs
     last_operand : {tokens : List Token} {operand : WrittenBehaviour} →
@@ -150,19 +154,21 @@ mutual
 
   -- atom = "stop" | "exit" [ "(" exitval { "," exitval } ")" ] | name [gates] [ "(" term { "," term } ")" ] | "(" beh ")"
   pub data IsAtom (text : List ℕ) : List Token → WrittenBehaviour → Type 0 where
-    stopping : {word : Token} → IsOf STOP word → IsAtom text (word ∷ []) (stop (place_of word))
+    stopping : {word : Token} → IsOfKind STOP word → IsAtom text (word ∷ []) (stop (place_of word))
     exiting : {word : Token} {tokens : List Token} {values : List WrittenExitValue} →
-        IsOf EXIT word → Optional [] (Between LEFT_PARENTHESIS RIGHT_PARENTHESIS (Separated COMMA (IsWrittenExitValue text))) tokens values
+        IsOfKind EXIT word
+        → Optional [] (Between LEFT_PARENTHESIS RIGHT_PARENTHESIS (Separated COMMA (IsWrittenExitValue text))) tokens values
         →
         IsAtom text (word ∷ tokens) (exit (place_of word) values)
     calling : {name : Token} {gate_tokens tokens : List Token} {gates : List PlacedName} {values : List WrittenTerm} →
-        IsOf NAME name → AreOptionalGates text gate_tokens gates → AreArguments text tokens values →
+        IsOfKind NAME name → AreOptionalGates text gate_tokens gates → AreArguments text tokens values →
         IsAtom text (name ∷ (gate_tokens ++ tokens)) (call (place_of name) (spelled text name) gates values)
     in_brackets : {left right : Token} {tokens : List Token} {inside : WrittenBehaviour} →
-        IsOf LEFT_PARENTHESIS left → IsBehaviour text tokens inside → IsOf RIGHT_PARENTHESIS right →
+        IsOfKind LEFT_PARENTHESIS left → IsBehaviourText text tokens inside → IsOfKind RIGHT_PARENTHESIS right →
         IsAtom text (left ∷ (tokens ++ right ∷ [])) inside
 
   -- beh, grouped
-  pub data IsBehaviour (text : List ℕ) : List Token → WrittenBehaviour → Type 0 where
+  pub data IsBehaviourText (text : List ℕ) : List Token → WrittenBehaviour → Type 0 where
     grouped_operands : {tokens : List Token} {operands : List WrittenBehaviour} {signs : List PlacedSign} {behaviour : WrittenBehaviour} →
-        AreOperands text tokens operands signs → IsGrouped strength_of joined operands signs behaviour → IsBehaviour text tokens behaviour
+        AreOperands text tokens operands signs → IsGrouped strength_of joined_by_sign operands signs behaviour
+        → IsBehaviourText text tokens behaviour

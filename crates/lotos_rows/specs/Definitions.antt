@@ -13,24 +13,24 @@ use Rattle.syntax_trees.specs.WrittenVariable.{WrittenVariable}
 use Rattle.syntax_trees.specs.WrittenItem.{WrittenItem}
 use Rattle.syntax_trees.specs.WrittenBehaviour.{WrittenBehaviour}
 use Rattle.syntax_trees.specs.WrittenDefinition.{WrittenHeading, WrittenInner, inner_item, process, inners_of}
-use Rattle.lotos_rows.specs.Words.{IsOf, Optional, Between}
+use Rattle.lotos_rows.specs.Words.{IsOfKind, Optional, Between}
 use Rattle.lotos_rows.specs.Names.{place_of, spelled, AreNames, AreOptionalGates, AreParameters}
 use Rattle.lotos_rows.specs.Types.{IsItem}
-use Rattle.lotos_rows.specs.Behaviours.{IsBehaviour}
+use Rattle.lotos_rows.specs.Behaviours.{IsBehaviourText}
 
 -- func = "noexit" | "exit" [ "(" names ")" ]
 pub data IsWrittenFunctionality (text : List ℕ) : List Token → Option (List PlacedName) → Type 0 where
-  no_exit : {word : Token} → IsOf NOEXIT word → IsWrittenFunctionality text (word ∷ []) None
+  no_exit : {word : Token} → IsOfKind NOEXIT word → IsWrittenFunctionality text (word ∷ []) None
   exit_of : {word : Token} {tokens : List Token} {sorts : List PlacedName} →
-      IsOf EXIT word → Optional [] (Between LEFT_PARENTHESIS RIGHT_PARENTHESIS (AreNames text)) tokens sorts →
+      IsOfKind EXIT word → Optional [] (Between LEFT_PARENTHESIS RIGHT_PARENTHESIS (AreNames text)) tokens sorts →
       IsWrittenFunctionality text (word ∷ tokens) (Some sorts)
 
 -- name [gates] [params] ":" func
 pub data IsHeading (text : List ℕ) : List Token → WrittenHeading → Type 0 where
   heading : {name colon : Token} {gate_tokens parameter_tokens tokens : List Token}
       {gates : List PlacedName} {parameters : List WrittenVariable} {functionality : Option (List PlacedName)} →
-      IsOf NAME name → AreOptionalGates text gate_tokens gates → Optional [] (AreParameters text) parameter_tokens parameters →
-      IsOf COLON colon → IsWrittenFunctionality text tokens functionality →
+      IsOfKind NAME name → AreOptionalGates text gate_tokens gates → Optional [] (AreParameters text) parameter_tokens parameters →
+      IsOfKind COLON colon → IsWrittenFunctionality text tokens functionality →
       IsHeading text (name ∷ (gate_tokens ++ (parameter_tokens ++ colon ∷ tokens)))
       (record { place = place_of name; name = spelled text name; gates = gates; parameters = parameters; functionality = functionality })
 
@@ -39,15 +39,15 @@ mutual
   pub data IsProcess (text : List ℕ) : List Token → WrittenInner → Type 0 where
     a_process : {word sign end : Token} {heading_tokens tokens where_tokens : List Token}
         {heading : WrittenHeading} {body : WrittenBehaviour} {inner : List WrittenInner} →
-        IsOf PROCESS word → IsHeading text heading_tokens heading → IsOf DEFINITION sign → IsBehaviour text tokens body →
-        IsWhere text where_tokens inner → IsOf ENDPROC end →
+        IsOfKind PROCESS word → IsHeading text heading_tokens heading → IsOfKind DEFINITION sign → IsBehaviourText text tokens body →
+        IsWhere text where_tokens inner → IsOfKind ENDPROC end →
         IsProcess text (word ∷ (heading_tokens ++ sign ∷ (tokens ++ (where_tokens ++ end ∷ [])))) (process heading body (inners_of inner))
 
   -- [where], with where = "where" { item | process }
   pub data IsWhere (text : List ℕ) : List Token → List WrittenInner → Type 0 where
     no_where : IsWhere text [] []
     a_where : {word : Token} {tokens : List Token} {inner : List WrittenInner} →
-        IsOf WHERE word → AreInner text tokens inner → IsWhere text (word ∷ tokens) inner
+        IsOfKind WHERE word → AreInner text tokens inner → IsWhere text (word ∷ tokens) inner
 
   -- { item | process }
   pub data AreInner (text : List ℕ) : List Token → List WrittenInner → Type 0 where

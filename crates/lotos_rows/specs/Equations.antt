@@ -12,7 +12,7 @@ use Rattle.lotos_lexer.specs.declared.kinds.TheConstants.{NAME, COMMA, SEMICOLON
 use Rattle.lotos_lexer.specs.declared.tokens.Token.{Token}
 use Rattle.syntax_trees.specs.WrittenVariable.{WrittenVariable}
 use Rattle.syntax_trees.specs.WrittenEquation.{WrittenPremiss, WrittenEquation, WrittenGroup, WrittenEquations}
-use Rattle.lotos_rows.specs.Words.{IsOf, Optional, Many, Separated, Behind}
+use Rattle.lotos_rows.specs.Words.{IsOfKind, Optional, Many, Separated, Behind}
 use Rattle.lotos_rows.specs.Names.{place_of, spelled, AreVariables}
 use Rattle.lotos_rows.specs.Terms.{IsTerm}
 
@@ -22,19 +22,19 @@ pub data IsPremiss (text : List ℕ) : List Token → WrittenPremiss → Type 0 
       IsTerm text (first ∷ rest) term →
       IsPremiss text (first ∷ rest) (record { place = place_of first; left = term; right = None })
   equal_terms : {first equals : Token} {rest tokens : List Token} {left right : WrittenTerm} →
-      IsTerm text (first ∷ rest) left → IsOf EQUALS equals → IsTerm text tokens right →
+      IsTerm text (first ∷ rest) left → IsOfKind EQUALS equals → IsTerm text tokens right →
       IsPremiss text (first ∷ (rest ++ equals ∷ tokens)) (record { place = place_of first; left = left; right = Some right })
 
 -- equation = term "=" term | premiss { "," premiss } "=>" term "=" term
 pub data IsWrittenEquation (text : List ℕ) : List Token → WrittenEquation → Type 0 where
   without_premisses : {first equals : Token} {rest tokens : List Token} {left right : WrittenTerm} →
-      IsTerm text (first ∷ rest) left → IsOf EQUALS equals → IsTerm text tokens right →
+      IsTerm text (first ∷ rest) left → IsOfKind EQUALS equals → IsTerm text tokens right →
       IsWrittenEquation text (first ∷ (rest ++ equals ∷ tokens))
       (record { place = place_of first; premisses = []; arrow = None; left = left; right = right })
   with_premisses : {first arrow equals : Token} {rest left_tokens tokens : List Token} {premisses : List WrittenPremiss}
       {left right : WrittenTerm} →
-      Separated COMMA (IsPremiss text) (first ∷ rest) premisses → IsOf IMPLIES arrow →
-      IsTerm text left_tokens left → IsOf EQUALS equals → IsTerm text tokens right →
+      Separated COMMA (IsPremiss text) (first ∷ rest) premisses → IsOfKind IMPLIES arrow →
+      IsTerm text left_tokens left → IsOfKind EQUALS equals → IsTerm text tokens right →
       IsWrittenEquation text (first ∷ (rest ++ arrow ∷ (left_tokens ++ equals ∷ tokens)))
       (record { place = place_of first; premisses = premisses; arrow = Some (place_of arrow); left = left; right = right })
 
@@ -43,9 +43,9 @@ pub data IsEquationList (text : List ℕ) : List Token → List WrittenEquation 
   last_equation : {tokens : List Token} {equation : WrittenEquation} →
       IsWrittenEquation text tokens equation → IsEquationList text tokens (equation ∷ [])
   ended_equation : {tokens : List Token} {semicolon : Token} {equation : WrittenEquation} →
-      IsWrittenEquation text tokens equation → IsOf SEMICOLON semicolon → IsEquationList text (tokens ++ semicolon ∷ []) (equation ∷ [])
+      IsWrittenEquation text tokens equation → IsOfKind SEMICOLON semicolon → IsEquationList text (tokens ++ semicolon ∷ []) (equation ∷ [])
   more_equations : {tokens rest : List Token} {semicolon : Token} {equation : WrittenEquation} {equations : List WrittenEquation} →
-      IsWrittenEquation text tokens equation → IsOf SEMICOLON semicolon → IsEquationList text rest equations →
+      IsWrittenEquation text tokens equation → IsOfKind SEMICOLON semicolon → IsEquationList text rest equations →
       IsEquationList text (tokens ++ semicolon ∷ rest) (equation ∷ equations)
 
 -- ["forall" vars]
@@ -56,7 +56,8 @@ AreForAll text = Optional [] (Behind FORALL (AreVariables text))
 pub data IsEquationGroup (text : List ℕ) : List Token → WrittenGroup → Type 0 where
   group_of_sort : {word sort : Token} {variable_tokens tokens : List Token} {variables : List WrittenVariable}
       {equations : List WrittenEquation} →
-      IsOf OFSORT word → IsOf NAME sort → AreForAll text variable_tokens variables → Optional [] (IsEquationList text) tokens equations →
+      IsOfKind OFSORT word → IsOfKind NAME sort → AreForAll text variable_tokens variables
+      → Optional [] (IsEquationList text) tokens equations →
       IsEquationGroup text (word ∷ sort ∷ (variable_tokens ++ tokens))
       (record { place = place_of sort; sort = spelled text sort; variables = variables; equations = equations })
 

@@ -15,7 +15,7 @@ use Rattle.lotos_base.specs.WrittenView.{text_place_of}
 use Rattle.lotos_lexer.specs.declared.kinds.TheConstants.{NAME, DIGIT_NAME, SIGN_NAME, COMMA, COLON, UNDERSCORE, ARROW, LEFT_BRACKET, RIGHT_BRACKET, LEFT_PARENTHESIS, RIGHT_PARENTHESIS}
 use Rattle.lotos_lexer.specs.declared.tokens.Token.{Token}
 use Rattle.syntax_trees.specs.WrittenVariable.{WrittenVariable}
-use Rattle.lotos_rows.specs.Words.{IsOf, Optional, Separated, Loosely, Between}
+use Rattle.lotos_rows.specs.Words.{IsOfKind, Optional, Separated, Loosely, Between}
 
 -- where a token stands
 abbrev pub place_of : Token → plain.Place
@@ -31,7 +31,7 @@ named text token = record { place = place_of token; name = spelled text token }
 
 -- name
 pub data IsName (text : List ℕ) : List Token → PlacedName → Type 0 where
-  a_name : {name : Token} → IsOf NAME name → IsName text (name ∷ []) (named text name)
+  a_name : {name : Token} → IsOfKind NAME name → IsName text (name ∷ []) (named text name)
 
 -- names = name { "," name }
 abbrev pub AreNames : List ℕ → List Token → List PlacedName → Type 0
@@ -66,7 +66,7 @@ variables_of_sort names sort = map (λ variable. record {
 -- names ":" name
 pub data AreVariablesOfSort (text : List ℕ) : List Token → List WrittenVariable → Type 0 where
   of_sort : {tokens : List Token} {colon sort : Token} {names : List PlacedName} →
-      AreNames text tokens names → IsOf COLON colon → IsOf NAME sort →
+      AreNames text tokens names → IsOfKind COLON colon → IsOfKind NAME sort →
       AreVariablesOfSort text (tokens ++ colon ∷ sort ∷ []) (variables_of_sort names (named text sort))
 
 -- vars = names ":" name { "," names ":" name }
@@ -80,9 +80,9 @@ AreParameters text = Between LEFT_PARENTHESIS RIGHT_PARENTHESIS (AreVariables te
 
 -- opname = name | digit name | sign name
 pub data IsOperationName (text : List ℕ) : List Token → PlacedName → Type 0 where
-  word_name : {name : Token} → IsOf NAME name → IsOperationName text (name ∷ []) (named text name)
-  digit_name : {name : Token} → IsOf DIGIT_NAME name → IsOperationName text (name ∷ []) (named text name)
-  sign_name : {name : Token} → IsOf SIGN_NAME name → IsOperationName text (name ∷ []) (named text name)
+  word_name : {name : Token} → IsOfKind NAME name → IsOperationName text (name ∷ []) (named text name)
+  digit_name : {name : Token} → IsOfKind DIGIT_NAME name → IsOperationName text (name ∷ []) (named text name)
+  sign_name : {name : Token} → IsOfKind SIGN_NAME name → IsOperationName text (name ∷ []) (named text name)
 
 -- an operation by its name, with the form that the underscores give it
 pub record NamedOperation : Type 0 where
@@ -94,7 +94,7 @@ pub data IsWrittenOperation (text : List ℕ) : List Token → NamedOperation �
   of_prefix_form : {tokens : List Token} {name : PlacedName} →
       IsOperationName text tokens name → IsWrittenOperation text tokens (record { name = name; form = prefix_form })
   of_infix_form : {left right : Token} {tokens : List Token} {name : PlacedName} →
-      IsOf UNDERSCORE left → IsOperationName text tokens name → IsOf UNDERSCORE right →
+      IsOfKind UNDERSCORE left → IsOperationName text tokens name → IsOfKind UNDERSCORE right →
       IsWrittenOperation text (left ∷ (tokens ++ right ∷ [])) (record { name = name; form = infix_form })
 
 -- the sorts of an operation: those of its arguments, and that of its result
@@ -105,5 +105,5 @@ pub record PlacedProfile : Type 0 where
 -- ":" [names] "->" name
 pub data IsProfile (text : List ℕ) : List Token → PlacedProfile → Type 0 where
   profile : {colon arrow sort : Token} {tokens : List Token} {arguments : List PlacedName} →
-      IsOf COLON colon → AreOptionalNames text tokens arguments → IsOf ARROW arrow → IsOf NAME sort →
+      IsOfKind COLON colon → AreOptionalNames text tokens arguments → IsOfKind ARROW arrow → IsOfKind NAME sort →
       IsProfile text (colon ∷ (tokens ++ arrow ∷ sort ∷ [])) (record { arguments = arguments; result = named text sort })

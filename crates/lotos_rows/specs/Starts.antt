@@ -11,17 +11,17 @@ use Rattle.lotos_lexer.specs.declared.tokens.Token.{Token}
 use Rattle.syntax_trees.specs.WrittenItem.{WrittenItem}
 use Rattle.syntax_trees.specs.WrittenBehaviour.{WrittenBehaviour}
 use Rattle.syntax_trees.specs.WrittenDefinition.{WrittenHeading, WrittenInner, WrittenSpecification}
-use Rattle.lotos_rows.specs.Words.{IsOf, Optional, Many}
+use Rattle.lotos_rows.specs.Words.{IsOfKind, Optional, Many}
 use Rattle.lotos_rows.specs.Names.{NamedOperation, IsName, IsWrittenOperation, PlacedProfile, IsProfile}
 use Rattle.lotos_rows.specs.Terms.{AreTerms}
 use Rattle.lotos_rows.specs.Types.{IsItem}
-use Rattle.lotos_rows.specs.Behaviours.{IsBehaviour}
+use Rattle.lotos_rows.specs.Behaviours.{IsBehaviourText}
 use Rattle.lotos_rows.specs.Definitions.{IsHeading, IsWhere}
 
 -- "behaviour" | "behavior"
 pub data IsBehaviourWord : Token → Type 0 where
-  british : {word : Token} → IsOf BEHAVIOUR word → IsBehaviourWord word
-  american : {word : Token} → IsOf BEHAVIOR word → IsBehaviourWord word
+  british : {word : Token} → IsOfKind BEHAVIOUR word → IsBehaviourWord word
+  american : {word : Token} → IsOfKind BEHAVIOR word → IsBehaviourWord word
 
 -- typetext = { item }
 abbrev pub AreItems : List ℕ → List Token → List WrittenItem → Type 0
@@ -31,8 +31,9 @@ AreItems text = Many (IsItem text)
 pub data IsWrittenSpecification (text : List ℕ) : List Token → WrittenSpecification → Type 0 where
   a_specification : {specification word end : Token} {heading_tokens item_tokens tokens where_tokens : List Token}
       {heading : WrittenHeading} {items : List WrittenItem} {body : WrittenBehaviour} {inner : List WrittenInner} →
-      IsOf SPECIFICATION specification → IsHeading text heading_tokens heading → AreItems text item_tokens items → IsBehaviourWord word →
-      IsBehaviour text tokens body → IsWhere text where_tokens inner → IsOf ENDSPEC end →
+      IsOfKind SPECIFICATION specification → IsHeading text heading_tokens heading → AreItems text item_tokens items
+      → IsBehaviourWord word →
+      IsBehaviourText text tokens body → IsWhere text where_tokens inner → IsOfKind ENDSPEC end →
       IsWrittenSpecification text (specification ∷ (heading_tokens ++ (item_tokens ++ word ∷ (tokens ++ (where_tokens ++ end ∷ [])))))
       (record { heading = heading; items = items; body = body; inner = inner })
 
@@ -57,7 +58,7 @@ pub data IsOrderItem (text : List ℕ) : List Token → ListedOperation → Type
   listed : {tokens profile_tokens status_tokens : List Token} {semicolon : Token} {operation : NamedOperation}
       {profile : Option PlacedProfile} {status : Option PlacedName} →
       IsWrittenOperation text tokens operation → IsOptionalProfile text profile_tokens profile →
-      IsOptionalStatus text status_tokens status → IsOf SEMICOLON semicolon →
+      IsOptionalStatus text status_tokens status → IsOfKind SEMICOLON semicolon →
       IsOrderItem text (tokens ++ (profile_tokens ++ (status_tokens ++ semicolon ∷ [])))
       (record {
         place = operation.name.place;

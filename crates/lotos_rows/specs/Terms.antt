@@ -11,7 +11,7 @@ use Rattle.lotos_base.specs.WrittenTerm.{PlacedName, WrittenTerm, written, writt
 use Rattle.lotos_lexer.specs.declared.kinds.TheConstants.{NAME, COMMA, OF, LEFT_PARENTHESIS, RIGHT_PARENTHESIS}
 use Rattle.lotos_lexer.specs.declared.tokens.Token.{Token}
 use Rattle.syntax_trees.specs.LeftGrouping.{IsGroupedLeft}
-use Rattle.lotos_rows.specs.Words.{IsOf}
+use Rattle.lotos_rows.specs.Words.{IsOfKind}
 use Rattle.lotos_rows.specs.Names.{named, IsOperationName}
 
 -- an operation or a variable before its arguments
@@ -46,29 +46,29 @@ mutual
   pub data IsFactor (text : List ℕ) : List Token → WrittenTerm → Type 0 where
     without_sort : {tokens : List Token} {term : WrittenTerm} → IsBase text tokens term → IsFactor text tokens term
     with_sort : {tokens : List Token} {of sort : Token} {term : WrittenTerm} →
-        IsBase text tokens term → IsOf OF of → IsOf NAME sort →
+        IsBase text tokens term → IsOfKind OF of → IsOfKind NAME sort →
         IsFactor text (tokens ++ of ∷ sort ∷ []) (of_sort (named text sort) term)
 
   -- base = opname [ "(" term { "," term } ")" ] | "(" term ")"
   pub data IsBase (text : List ℕ) : List Token → WrittenTerm → Type 0 where
     without_arguments : {tokens : List Token} {name : PlacedName} → IsOperationName text tokens name → IsBase text tokens (applied name [])
     with_arguments : {tokens argument_tokens : List Token} {left right : Token} {name : PlacedName} {arguments : List WrittenTerm} →
-        IsOperationName text tokens name → IsOf LEFT_PARENTHESIS left → AreTerms text argument_tokens arguments
-        → IsOf RIGHT_PARENTHESIS right →
+        IsOperationName text tokens name → IsOfKind LEFT_PARENTHESIS left → AreTerms text argument_tokens arguments
+        → IsOfKind RIGHT_PARENTHESIS right →
         IsBase text (tokens ++ left ∷ (argument_tokens ++ right ∷ [])) (applied name arguments)
     bracketed : {tokens : List Token} {left right : Token} {term : WrittenTerm} →
-        IsOf LEFT_PARENTHESIS left → IsTerm text tokens term → IsOf RIGHT_PARENTHESIS right →
+        IsOfKind LEFT_PARENTHESIS left → IsTerm text tokens term → IsOfKind RIGHT_PARENTHESIS right →
         IsBase text (left ∷ (tokens ++ right ∷ [])) term
 
   -- term { "," term }
   pub data AreTerms (text : List ℕ) : List Token → List WrittenTerm → Type 0 where
     one_term : {tokens : List Token} {term : WrittenTerm} → IsTerm text tokens term → AreTerms text tokens (term ∷ [])
     more_terms : {tokens rest : List Token} {comma : Token} {term : WrittenTerm} {terms : List WrittenTerm} →
-        IsTerm text tokens term → IsOf COMMA comma → AreTerms text rest terms → AreTerms text (tokens ++ comma ∷ rest) (term ∷ terms)
+        IsTerm text tokens term → IsOfKind COMMA comma → AreTerms text rest terms → AreTerms text (tokens ++ comma ∷ rest) (term ∷ terms)
 
 -- [ "(" term { "," term } ")" ]
 pub data AreArguments (text : List ℕ) : List Token → List WrittenTerm → Type 0 where
   no_arguments : AreArguments text [] []
   some_arguments : {tokens : List Token} {left right : Token} {terms : List WrittenTerm} →
-      IsOf LEFT_PARENTHESIS left → AreTerms text tokens terms → IsOf RIGHT_PARENTHESIS right →
+      IsOfKind LEFT_PARENTHESIS left → AreTerms text tokens terms → IsOfKind RIGHT_PARENTHESIS right →
       AreArguments text (left ∷ (tokens ++ right ∷ [])) terms

@@ -11,7 +11,7 @@ use Rattle.lotos_lexer.specs.declared.kinds.TheConstants.{NAME, COMMA, LIBRARY, 
 use Rattle.lotos_lexer.specs.declared.tokens.Token.{Token}
 use Rattle.syntax_trees.specs.WrittenEquation.{WrittenEquations}
 use Rattle.syntax_trees.specs.WrittenItem.{WrittenOperation, WrittenSections, WrittenPairs, WrittenTypeBody, extends, renames, actualises, WrittenItem, libraries, type_declared}
-use Rattle.lotos_rows.specs.Words.{IsOf, Optional, Many, Separated, Behind}
+use Rattle.lotos_rows.specs.Words.{IsOfKind, Optional, Many, Separated, Behind}
 use Rattle.lotos_rows.specs.Names.{place_of, spelled, named, AreNames, AreLooseNames, NamedOperation, IsWrittenOperation, PlacedProfile, IsProfile}
 use Rattle.lotos_rows.specs.Equations.{AreEquations}
 use Rattle.lotos_rows.specs.Renamings.{AreRenames}
@@ -68,10 +68,11 @@ pub data AreSections (text : List ℕ) : List Token → WrittenSections → Type
 -- body = name ( "renamedby" renames | "actualizedby" names "using" renames | { "," name } sections ) | sections
 pub data IsTypeBody (text : List ℕ) : List Token → WrittenTypeBody → Type 0 where
   renaming : {base word : Token} {tokens : List Token} {pairs : WrittenPairs} →
-      IsOf NAME base → IsOf RENAMEDBY word → AreRenames text tokens pairs →
+      IsOfKind NAME base → IsOfKind RENAMEDBY word → AreRenames text tokens pairs →
       IsTypeBody text (base ∷ word ∷ tokens) (renames (named text base) pairs)
   actualising : {base word using : Token} {actual_tokens tokens : List Token} {actuals : List PlacedName} {pairs : WrittenPairs} →
-      IsOf NAME base → IsOf ACTUALIZEDBY word → AreNames text actual_tokens actuals → IsOf USING using → AreRenames text tokens pairs →
+      IsOfKind NAME base → IsOfKind ACTUALIZEDBY word → AreNames text actual_tokens actuals → IsOfKind USING using
+      → AreRenames text tokens pairs →
       IsTypeBody text (base ∷ word ∷ (actual_tokens ++ using ∷ tokens)) (actualises (named text base) actuals pairs)
   extending : {import_tokens tokens : List Token} {imports : List PlacedName} {sections : WrittenSections} →
       AreNames text import_tokens imports → AreSections text tokens sections →
@@ -82,8 +83,8 @@ pub data IsTypeBody (text : List ℕ) : List Token → WrittenTypeBody → Type 
 -- item = type | "library" names "endlib", with type = "type" name "is" body "endtype"
 pub data IsItem (text : List ℕ) : List Token → WrittenItem → Type 0 where
   a_library : {word end : Token} {tokens : List Token} {names : List PlacedName} →
-      IsOf LIBRARY word → AreNames text tokens names → IsOf ENDLIB end →
+      IsOfKind LIBRARY word → AreNames text tokens names → IsOfKind ENDLIB end →
       IsItem text (word ∷ (tokens ++ end ∷ [])) (libraries (place_of word) names)
   a_type : {word name is end : Token} {tokens : List Token} {body : WrittenTypeBody} →
-      IsOf TYPE word → IsOf NAME name → IsOf IS is → IsTypeBody text tokens body → IsOf ENDTYPE end →
+      IsOfKind TYPE word → IsOfKind NAME name → IsOfKind IS is → IsTypeBody text tokens body → IsOfKind ENDTYPE end →
       IsItem text (word ∷ name ∷ is ∷ (tokens ++ end ∷ [])) (type_declared (place_of name) (spelled text name) body)

@@ -9,7 +9,7 @@ use Rattle.certificate_verbs.specs.HandedOn.{book_canon, book_chooses, book_is_c
 use Rattle.certificate_verbs.specs.HandedOn.{Acceptance, HoldsAccepted, Accepted, Progress, Situation, first_situation, IsSituation}
 use Rattle.certificate_verbs.specs.HandedOn.{basis_over, progress_of, pasts_of, AreSuited, IsKeptState, IsLawfulSession, Past, Session}
 use Rattle.certificate_verbs.specs.HandedOn.{specification_of, state_of, CodeSpec as Spec, State, CanBegin}
-use Rattle.menu_parts.specs.KeptMenus.{Suits}
+use Rattle.menu_parts.specs.KeptMenus.{MakerSuits}
 use Rattle.menu_parts.specs.declared.makers.PartMenus.{PartMenus}
 use Rattle.lotos_top.specs.Opening.{SessionBegins}
 use Rattle.lotos_top.specs.Prepared.{begun, IsLawfulAt}
@@ -17,8 +17,8 @@ use Rattle.lotos_top.specs.Prepared.{begun, IsLawfulAt}
 -- ---- What was accepted can be opened
 
 pub suited : (acceptance : Acceptance) (accepted : Accepted) (maker : PartMenus) → HoldsAccepted acceptance accepted
-    → Suits maker accepted.spec (data_of accepted.book.flat) (book_canon accepted.book)
-    → AreSuited Suits (data_of accepted.book.flat) (book_canon accepted.book) accepted.spec accepted.ranks maker
+    → MakerSuits maker accepted.spec (data_of accepted.book.flat) (book_canon accepted.book)
+    → AreSuited MakerSuits (data_of accepted.book.flat) (book_canon accepted.book) accepted.spec accepted.ranks maker
 suited acceptance accepted maker holds fitting =
     record { signature = holds.well_formed.signature; over = holds.over; ranked = holds.ranks_are; fitting = fitting }
 
@@ -32,7 +32,7 @@ kept acceptance accepted holds = record { over = holds.state; closed = holds.clo
 pub record IsOpenedAt (accepted : Accepted) (book : Book) (session : Session PartMenus) : Type 0 where
   pub same_data : data_of book.flat ≡ data_of accepted.book.flat
   pub same_canon : book_canon book ≡ book_canon accepted.book
-  pub lawful : IsLawfulSession Suits (data_of accepted.book.flat) (book_canon accepted.book) session
+  pub lawful : IsLawfulSession MakerSuits (data_of accepted.book.flat) (book_canon accepted.book) session
   pub spec : session.spec ≡ accepted.spec
   pub state : session.course.state ≡ accepted.start
   pub history : session.course.history.items ≡ []
@@ -40,8 +40,8 @@ pub record IsOpenedAt (accepted : Accepted) (book : Book) (session : Session Par
 pub lawful_here : (accepted : Accepted) (book : Book) (session : Session PartMenus) → IsOpenedAt accepted book session
     → IsLawfulAt (record { session = session; book = book })
 lawful_here accepted book session is =
-    subst (λ (f : Term → Term). IsLawfulSession Suits (data_of book.flat) f session) (sym is.same_canon)
-    (subst (λ (d : Data). IsLawfulSession Suits d (book_canon accepted.book) session) (sym is.same_data) is.lawful)
+    subst (λ (f : Term → Term). IsLawfulSession MakerSuits (data_of book.flat) f session) (sym is.same_canon)
+    (subst (λ (d : Data). IsLawfulSession MakerSuits d (book_canon accepted.book) session) (sym is.same_data) is.lawful)
 
 first_here : (progress : Progress) → progress.steps ≡ [] → first_situation progress ≡ progress.situation
 first_here progress none = first progress.situation progress.steps none
@@ -53,7 +53,7 @@ first_here progress none = first progress.situation progress.steps none
 can_begin : (accepted : Accepted) (book : Book) (session : Session PartMenus) → IsOpenedAt accepted book session
     → CanBegin (begun (record { session = session; book = book }))
 can_begin accepted book session is =
-    let lawful : IsLawfulSession Suits (data_of book.flat) (book_canon book) session = lawful_here accepted book session is in
+    let lawful : IsLawfulSession MakerSuits (data_of book.flat) (book_canon book) session = lawful_here accepted book session is in
     let none : (progress_of session.course).steps ≡ [] = ap (λ (history : List Past). pasts_of history) is.history in
     record {
       over = record {

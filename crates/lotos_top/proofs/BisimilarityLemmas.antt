@@ -10,7 +10,7 @@ use Rattle.certificate_verbs.specs.declared.ended.Ended.{Ended}
 use Rattle.certificate_verbs.specs.declared.ended.Ended.TheVariants.{Done}
 use Rattle.certificate_verbs.proofs.ComparedParts.{checks_refuses, IsYes, checks_on, no_refusal}
 use Rattle.lotos_top.specs.Bisimilarity.{AreFoundBisimilar, SaysBisimilar, YesMeansBisimilar}
-use Rattle.lotos_top.specs.Run.{Streams, Writes, whole, in_part, nothing, Follows, Ran}
+use Rattle.lotos_top.specs.Run.{Streams, Writes, whole, in_part, nothing, FollowsFromWork, Ran}
 use Rattle.lotos_top.specs.Work.{work_of}
 
 -- ---- A run
@@ -49,11 +49,11 @@ module _ (shows : AcceptedCertificatesShowBisimilarity) (same_doings : AcceptedS
   }
 
   says : (c : Compared) (shelf between shelf_after : ShelfState) (before after : Streams) (answer : Ended) (comes : Comes Print Finish)
-      → Did shelf between (ChecksCertificate c) comes → Follows comes between shelf_after before after answer → answer ≡ Done
+      → Did shelf between (ChecksCertificate c) comes → FollowsFromWork comes between shelf_after before after answer → answer ≡ Done
       → SaysBisimilar c shelf shelf_after before after
   says c shelf between shelf_after before after answer (goes_on finish) did follows done =
       let shown = checks_on c did.0 finish did.2 in
-      let printed = subst (λ (it : Finish). Follows (goes_on it) between shelf_after before after answer) shown.finishes follows in
+      let printed = subst (λ (it : Finish). FollowsFromWork (goes_on it) between shelf_after before after answer) shown.finishes follows in
       record {
         files = did.0;
         gave = subst (λ (it : ShelfState). Gives shelf it did.0) (sym printed.shelf_kept) did.1;

@@ -8,9 +8,10 @@ use Rattle.certificate_verbs.specs.HandedOn.{Beginning, CommandLine, Compared, c
 use Rattle.certificate_verbs.specs.HandedOn.{Induced, induction}
 use Rattle.line_server.specs.Limits.{input_limit}
 use Rattle.line_server.specs.Session.{SessionCame, finished, quit, input_failed, too_long, output_failed, closing_failed, wanted_memory}
-use Rattle.line_server.specs.Turn.{around, IsRead}
+use Rattle.line_server.specs.Turn.{around, IsReadOfInput}
 use Rattle.line_server.specs.Writing.{Stream}
 use Rattle.line_server.specs.declared.ends.SessionEnd.{SessionEnd}
+use Rattle.line_server.proofs.ServedBytes.{rises_from}
 use Rattle.certificate_verbs.specs.Certificates.{bisimilar_printed}
 use Rattle.certificate_verbs.specs.Finishing.{Print, print, Finish, prints, serves, unread_printed, refusal_printed}
 use Rattle.certificate_verbs.specs.declared.ended.Ended.{Ended}
@@ -20,8 +21,8 @@ use Rattle.certificate_verbs.proofs.InducedParts.{induces_on, induces_refuses}
 use Rattle.lotos_top.specs.Causes.{GivesWay, IsReadPast, ServesLines, IsDemonstration, IsUnread, AnswersHaveCauses}
 use Rattle.lotos_top.specs.Flattening.{flat_printed}
 use Rattle.lotos_top.specs.Opening.{opening_text}
-use Rattle.lotos_top.specs.Parts.{Opens}
-use Rattle.lotos_top.specs.Run.{Streams, Writes, whole, in_part, nothing, Prints, ServesSession, in_front, in_want, behind, Stops, Follows, Ran, ended_by}
+use Rattle.lotos_top.specs.Parts.{OpensSession}
+use Rattle.lotos_top.specs.Run.{Streams, Writes, whole, in_part, nothing, Prints, ServesSession, in_front, in_want, behind, Stops, FollowsFromWork, Ran, ended_by}
 use Rattle.lotos_top.specs.Work.{work_of}
 
 -- ---- A text that is printed
@@ -203,7 +204,7 @@ input_facts before after answer is rises output = record {
 }
 
 past : (left left_after : Option (List ℕ)) (seen : List ℕ) (byte : ℕ) → length seen ≡ input_limit
-    → IsRead left (seen ++ byte ∷ []) left_after → IsReadPast left left_after
+    → IsReadOfInput left (seen ++ byte ∷ []) left_after → IsReadPast left left_after
 past None left_after seen byte whole_ read = tt
 past (Some bytes) left_after seen byte whole_ read =
     (seen ++ byte ∷ [], read.0, omega (arith, length-append seen (byte ∷ []), whole_), read.1, read.2)
@@ -219,9 +220,6 @@ long_facts before after answer is read input output = record {
   output_fault = λ rose. absurd (omega (arith, output, rose));
   long = λ e. read;
 }
-
-rises_from : (before between after : ℕ) → between ≡ before → Rises between after → Rises before after
-rises_from before between after is rises = subst (λ (it : ℕ). Rises it after) is rises
 
 came_facts : (start last : SessionPoint) (before after : Streams) (between : Stream) (seen : List ℕ) (end : SessionEnd) (answer : Ended)
     → between.faults ≡ before.output.faults
@@ -328,7 +326,7 @@ told_plainly {A} tell part made refusals texts =
 
 check_plainly : (asked : Asked) → PrintsPlainly (work_of (Some (check asked)))
 check_plainly asked =
-    told_plainly (refusal_printed asked.spec asked.order) (Opens (IsAccepted asked))
+    told_plainly (refusal_printed asked.spec asked.order) (OpensSession (IsAccepted asked))
     (λ (begun : Beginning). print (opening_text begun) Done) (λ r. inr (inl refl)) (λ begun. inl refl)
 
 flatten_plainly : (spec : List ℕ) (order : Option (List ℕ)) → PrintsPlainly (work_of (Some (flattening spec order)))
@@ -352,7 +350,7 @@ induction_plainly i = record {
 
 module _ (shelf between shelf_after : ShelfState) (before after : Streams) (answer : Ended) where
   no_line_causes : (comes : Comes Print Finish) → Did shelf between (work_of None) comes
-      → Follows comes between shelf_after before after answer
+      → FollowsFromWork comes between shelf_after before after answer
       → AnswersHaveCauses None shelf shelf_after before after answer
   no_line_causes (goes_on (prints p)) did follows =
       printed_causes None shelf between shelf_after before after answer p did.1.texts
@@ -365,13 +363,13 @@ module _ (shelf between shelf_after : ShelfState) (before after : Streams) (answ
 
   -- a line that prints a text alone
   plain_causes : (line : CommandLine) → PrintsPlainly (work_of (Some line)) → (comes : Comes Print Finish)
-      → Did shelf between (work_of (Some line)) comes → Follows comes between shelf_after before after answer
+      → Did shelf between (work_of (Some line)) comes → FollowsFromWork comes between shelf_after before after answer
       → AnswersHaveCauses (Some line) shelf shelf_after before after answer
   plain_causes line plainly (goes_on finish) did follows =
       let printed = plainly.finishes did.0 finish did.2 in
       printed_causes (Some line) shelf between shelf_after before after answer printed.0 did.1.texts
       (plain_status (Some line) shelf between printed.0.status (some_line line) did.1.faults printed.2)
-      (subst (λ (it : Finish). Follows (goes_on it) between shelf_after before after answer) printed.1 follows)
+      (subst (λ (it : Finish). FollowsFromWork (goes_on it) between shelf_after before after answer) printed.1 follows)
   plain_causes line plainly (unread name) did follows =
       printed_causes (Some line) shelf between shelf_after before after answer (unread_printed name) did.1.texts
       (file_status (Some line) shelf between FileFault (some_line line) (inl (unread_cause shelf between name did.1.cause)) refl) follows
@@ -382,7 +380,7 @@ module _ (shelf between shelf_after : ShelfState) (before after : Streams) (answ
       stopped_causes (Some line) shelf between shelf_after before after answer did.1.texts did.1.faults follows
 
   session_causes : (asked : Asked) (comes : Comes Print Finish) → Did shelf between (work_of (Some (session asked))) comes
-      → Follows comes between shelf_after before after answer
+      → FollowsFromWork comes between shelf_after before after answer
       → AnswersHaveCauses (Some (session asked)) shelf shelf_after before after answer
   session_causes asked (goes_on (serves begun)) did follows =
       served_causes asked shelf between shelf_after before after answer begun follows
@@ -401,7 +399,7 @@ module _ (shelf between shelf_after : ShelfState) (before after : Streams) (answ
       stopped_causes (Some (session asked)) shelf between shelf_after before after answer did.1.texts did.1.faults follows
 
   demo_causes : (cells : ℕ) (comes : Comes Print Finish) → Did shelf between (work_of (Some (demonstration cells))) comes
-      → Follows comes between shelf_after before after answer
+      → FollowsFromWork comes between shelf_after before after answer
       → AnswersHaveCauses (Some (demonstration cells)) shelf shelf_after before after answer
   demo_causes cells (goes_on (prints p)) (files, gives, (none, inl ended)) follows = absurd ended
   demo_causes cells (goes_on (prints p)) (files, gives, (none, inr then_)) follows =
@@ -424,7 +422,7 @@ module _ (shelf between shelf_after : ShelfState) (before after : Streams) (answ
       stopped_causes (Some (demonstration cells)) shelf between shelf_after before after answer did.1.texts did.1.faults follows
 
   causes_of : (line : Option CommandLine) (comes : Comes Print Finish) → Did shelf between (work_of line) comes
-      → Follows comes between shelf_after before after answer → AnswersHaveCauses line shelf shelf_after before after answer
+      → FollowsFromWork comes between shelf_after before after answer → AnswersHaveCauses line shelf shelf_after before after answer
   causes_of None comes did follows = no_line_causes comes did follows
   causes_of (Some (check asked)) comes did follows = plain_causes (check asked) (check_plainly asked) comes did follows
   causes_of (Some (session asked)) comes did follows = session_causes asked comes did follows

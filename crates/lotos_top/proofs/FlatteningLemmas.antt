@@ -15,7 +15,7 @@ use Rattle.certificate_verbs.specs.declared.printing.Alone.{Alone}
 use Rattle.certificate_verbs.specs.declared.ended.Ended.TheVariants.{Done}
 use Rattle.certificate_verbs.proofs.PrintedLemmas.{print_is, goes_on_to}
 use Rattle.certificate_verbs.proofs.PartLemmas.{got_alone}
-use Rattle.lotos_top.specs.Flattening.{flat_printed, Flattens, flattened_by, IsByFounding}
+use Rattle.lotos_top.specs.Flattening.{flat_printed, FlattensSpecification, flattened_by, IsByFounding}
 use Rattle.lotos_top.specs.Prepared.{IsReady}
 use Rattle.lotos_top.specs.Work.{work_of}
 use Rattle.lotos_top.specs.declared.opening.Ready.TheVariants as ready
@@ -60,7 +60,8 @@ record Founds (texts : Texts) (spec : List ℕ) (order : Option (List ℕ)) (com
   pub is : comes ≡ flattened_by spec order outcome
 
 module _ (texts : Texts) (spec : List ℕ) (order : Option (List ℕ)) where
-  founds_by : (files : List GotFile) (comes : Comes Print Finish) → Flattens spec order files comes → AreGotFrom (got_from texts) files
+  founds_by : (files : List GotFile) (comes : Comes Print Finish) → FlattensSpecification spec order files comes
+      → AreGotFrom (got_from texts) files
       → Lacks (got_from texts) comes → Founds texts spec order comes
   founds_by files (goes_on finish) (inl ended) got lacks = absurd ended
   founds_by files (goes_on finish) (inr then_) got lacks = record {
@@ -88,7 +89,8 @@ module _ (texts : Texts) (spec : List ℕ) (order : Option (List ℕ)) where
   founds_by files (stops p) (inr then_) got lacks = absurd then_.4
   founds_by files wants_memory came got lacks = absurd lacks
 
-  pub flattens_over : (comes : Comes Print Finish) → ComesOfPart texts (Flattens spec order) comes → IsByFounding texts spec order comes
+  pub flattens_over : (comes : Comes Print Finish) → ComesOfPart texts (FlattensSpecification spec order) comes
+      → IsByFounding texts spec order comes
   flattens_over comes work = λ outcome over.
       let founds = founds_by work.files comes work.came work.got_files work.lacks in
       founds.is ∙ ap (λ (it : Comes Refused Founded). flattened_by spec order it)

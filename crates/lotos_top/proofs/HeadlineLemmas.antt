@@ -11,7 +11,7 @@ use Rattle.line_server.specs.Answered as served
 use Rattle.line_server.specs.Cutting.{complete, unfinished, last_line, lines_in}
 use Rattle.line_server.specs.Limits.{input_limit}
 use Rattle.line_server.specs.Session.{SessionCame, finished, quit, input_failed, too_long, output_failed, closing_failed, wanted_memory}
-use Rattle.line_server.specs.Turn.{around, IsRead}
+use Rattle.line_server.specs.Turn.{around, IsReadOfInput}
 use Rattle.line_server.specs.Writing.{Stream, WritesAll}
 use Rattle.line_server.proofs.Cuts.{complete-append}
 use Rattle.line_server.proofs.AnsweredLines.{answered_still}
@@ -21,7 +21,7 @@ use Rattle.certificate_verbs.specs.declared.ended.Ended.{Ended}
 use Rattle.certificate_verbs.specs.declared.ended.Ended.TheVariants.{Done, NoMemory}
 use Rattle.lotos_top.specs.Headline.{CountStands, IsSteady, Simulates, Headline}
 use Rattle.lotos_top.specs.Opening.{SessionBegins, opening_text}
-use Rattle.lotos_top.specs.Run.{Streams, ServesSession, in_front, in_want, behind, Follows, Ran, ended_by}
+use Rattle.lotos_top.specs.Run.{Streams, ServesSession, in_front, in_want, behind, FollowsFromWork, Ran, ended_by}
 use Rattle.lotos_top.specs.Work.{work_of}
 use Rattle.lotos_top.proofs.RunLemmas.{follows_rise, rises_on}
 use Rattle.lotos_top.proofs.WorkLemmas.{session_on, session_unread, session_stops, opened_on}
@@ -46,11 +46,11 @@ written_after before between after written opening answers is one two =
 
 -- ---- What was read
 
-read_of : (before after : Option (List ℕ)) (bytes seen : List ℕ) → before ≡ Some bytes → IsRead before seen after
+read_of : (before after : Option (List ℕ)) (bytes seen : List ℕ) → before ≡ Some bytes → IsReadOfInput before seen after
     → (rest : List ℕ) × (bytes ≡ seen ++ rest) × (after ≡ Some rest)
 read_of before after bytes seen is read = rw is at read
 
-read_whole : (before after : Option (List ℕ)) (bytes seen : List ℕ) → before ≡ Some bytes → IsRead before seen after
+read_whole : (before after : Option (List ℕ)) (bytes seen : List ℕ) → before ≡ Some bytes → IsReadOfInput before seen after
     → IfSome before (λ _. after ≡ Some []) → bytes ≡ seen
 read_whole before after bytes seen is read none =
     let there = read_of before after bytes seen is read in
@@ -173,7 +173,7 @@ module _ (answered : ServedLinesAreAnswered) (leads : LinesLeadOn) (asked : Aske
       (rises_on shelf.faults between.faults shelf_after.faults later rises)
 
   over_shelf : (comes : Comes Print Finish) → Did shelf between (work_of (Some (session asked))) comes
-      → Follows comes between shelf_after before after answer
+      → FollowsFromWork comes between shelf_after before after answer
       → (answer ≡ NoMemory) ⊎ Simulates acceptance texts bytes written shelf_after after answer
   over_shelf (goes_on finish) did follows =
       let on = session_on asked did.0 finish did.2 in
@@ -194,7 +194,7 @@ module _ (answered : ServedLinesAreAnswered) (leads : LinesLeadOn) (asked : Aske
         input_stands = steady.input_stands;
         output_stands = steady.output_stands;
       })
-      answer (subst (λ (it : Finish). Follows (goes_on it) between shelf_after before after answer) on.1 follows)
+      answer (subst (λ (it : Finish). FollowsFromWork (goes_on it) between shelf_after before after answer) on.1 follows)
   over_shelf (unread name) did follows =
       let came : Did shelf between (IsAccepted asked) (unread name) = (did.0, did.1, session_unread asked did.0 name did.2) in
       absurd (goes_and_lacks (goes_on acceptance) acceptance name refl

@@ -11,7 +11,7 @@ use Rattle.certificate_verbs.specs.declared.ended.Ended.TheVariants.{Done}
 use Rattle.certificate_verbs.proofs.ComparedParts.{no_refusal}
 use Rattle.certificate_verbs.proofs.InducedParts.{induces_refuses, IsInduced, induces_on}
 use Rattle.lotos_top.specs.Induction.{IsFoundInductive, SaysInductive, YesMeansInductive}
-use Rattle.lotos_top.specs.Run.{Streams, Follows, Ran}
+use Rattle.lotos_top.specs.Run.{Streams, FollowsFromWork, Ran}
 use Rattle.lotos_top.specs.Work.{work_of}
 use Rattle.lotos_top.proofs.BisimilarityLemmas.{yes_printed, no_yes}
 
@@ -36,10 +36,10 @@ found_inductive i files finish it = record {
 
 says_inductive : (i : Induced) (shelf between shelf_after : ShelfState) (before after : Streams) (answer : Ended)
     (comes : Comes Print Finish) → Did shelf between (ChecksInduction i) comes
-    → Follows comes between shelf_after before after answer → answer ≡ Done → SaysInductive i shelf shelf_after before after
+    → FollowsFromWork comes between shelf_after before after answer → answer ≡ Done → SaysInductive i shelf shelf_after before after
 says_inductive i shelf between shelf_after before after answer (goes_on finish) did follows done =
     let it = induces_on i did.0 finish did.2 in
-    let printed = subst (λ (f : Finish). Follows (goes_on f) between shelf_after before after answer) it.finishes follows in
+    let printed = subst (λ (f : Finish). FollowsFromWork (goes_on f) between shelf_after before after answer) it.finishes follows in
     record {
       files = did.0;
       gave = subst (λ (s : ShelfState). Gives shelf s did.0) (sym printed.shelf_kept) did.1;

@@ -7,17 +7,16 @@ use Rattle.certificate_verbs.specs.HandedOn.{ShelfState, shelf_state, GotFile, I
 use Rattle.certificate_verbs.specs.HandedOn.{AcceptsText, IsAccepted, goes_on, unread, stops, wants_memory, Part, Has, Did, Failed}
 use Rattle.certificate_verbs.specs.HandedOn.{NotAccepted, File as Lacking, Spec, NoMemory, IsSummary, demo_text, past_of, progress_of}
 use Rattle.certificate_verbs.specs.HandedOn.{Course, Past, Beginning, CommandLine, check, session, demonstration, usage_text}
-use Rattle.certificate_verbs.proofs.HandedOn.{did_then, has_done, wants_nothing, failed_first}
+use Rattle.certificate_verbs.proofs.HandedOn.{did_then, has_done, wants_nothing, failed_first, gives_nothing}
 use Rattle.lotos_base.specs.declared.memory_shelf.MemShelf.{MemShelf}
 use Rattle.certificate_verbs.specs.Printed.{print_in, IsFaultPrinted}
 use Rattle.certificate_verbs.specs.Finishing.{Print, print, prints, serves, refusal_printed}
 use Rattle.certificate_verbs.specs.declared.printing.Alone.{Alone}
 use Rattle.certificate_verbs.specs.declared.ended.Ended.TheVariants.{Done, WordsRefused}
-use Rattle.certificate_verbs.proofs.PartLemmas.{gives_none}
 use Rattle.certificate_verbs.proofs.PrintedLemmas.{print_is, goes_on_to}
 use Rattle.lotos_top.specs.Opening.{SessionBegins, opening_text}
 use Rattle.lotos_top.specs.Prepared.{begun, CameTo, IsReady, IsMadeReady, FailsAlone}
-use Rattle.lotos_top.specs.Parts.{Finds, Opens}
+use Rattle.lotos_top.specs.Parts.{Finds, OpensSession}
 use Rattle.lotos_top.specs.Work.{work_of}
 use Rattle.lotos_top.specs.declared.opening.Opened.{Opened}
 use Rattle.lotos_top.specs.declared.opening.Ready.{Ready}
@@ -37,35 +36,35 @@ made_ready (Err fault) given Is P Q is held good came = subst (λ it. MatchResul
 
 -- its session begins
 pub did_open : (a b : ShelfState) (accepts : Part Refused Acceptance) (acceptance : Acceptance) (begins : Beginning)
-    → Did a b accepts (goes_on acceptance) → SessionBegins acceptance begins → Did a b (Opens accepts) (goes_on begins)
+    → Did a b accepts (goes_on acceptance) → SessionBegins acceptance begins → Did a b (OpensSession accepts) (goes_on begins)
 did_open a b accepts acceptance begins did is =
     did_then a b b accepts (λ (it : Acceptance). Finds (SessionBegins it)) acceptance (goes_on begins) did
     (found Refused b (SessionBegins acceptance) begins is)
 
 -- memory was wanted for it
 pub want_to_open : (a b : ShelfState) (accepts : Part Refused Acceptance) (acceptance : Acceptance) → Did a b accepts (goes_on acceptance)
-    → Failed a b (Opens accepts) NoMemory
+    → Failed a b (OpensSession accepts) NoMemory
 want_to_open a b accepts acceptance did =
     did_then a b b accepts (λ (it : Acceptance). Finds (SessionBegins it)) acceptance wants_memory did
     (wants_nothing {E = Refused} b (Finds (SessionBegins acceptance)) refl)
 
 -- it was not accepted
 pub open_failed : (a b : ShelfState) (accepts : Part Refused Acceptance) (fault : NotAccepted) → Failed a b accepts fault
-    → Failed a b (Opens accepts) fault
+    → Failed a b (OpensSession accepts) fault
 open_failed a b accepts fault failed = failed_first a b accepts (λ (it : Acceptance). Finds (SessionBegins it)) fault failed
 
 -- ---- The lines of words
 
 -- `check` and `run` of what is accepted
 pub checked_came : (asked : Asked) (before after : ShelfState) (begins : Beginning)
-    → Did before after (Opens (IsAccepted asked)) (goes_on begins)
+    → Did before after (OpensSession (IsAccepted asked)) (goes_on begins)
     → Did before after (work_of (Some (check asked))) (goes_on (prints (print (opening_text begins) Done)))
 checked_came asked before after begins did =
-    goes_on_to asked.spec asked.order (Opens (IsAccepted asked)) (λ (it : Beginning). Has (prints (print (opening_text it) Done)))
+    goes_on_to asked.spec asked.order (OpensSession (IsAccepted asked)) (λ (it : Beginning). Has (prints (print (opening_text it) Done)))
     before after begins (prints (print (opening_text begins) Done)) did (has_done Print after (prints (print (opening_text begins) Done)))
 
 pub checked_ready : (asked : Asked) (before after : ShelfState) (opened : Opened) (alone : Alone)
-    → Did before after (Opens (IsAccepted asked)) (goes_on (begun opened)) → alone.text.items ≡ opening_text (begun opened)
+    → Did before after (OpensSession (IsAccepted asked)) (goes_on (begun opened)) → alone.text.items ≡ opening_text (begun opened)
     → alone.ended ≡ Done → IsReady (Some (check asked)) before after (ready.Alone alone)
 checked_ready asked before after opened alone did text ended = (
   goes_on (prints (print (opening_text (begun opened)) Done)),
@@ -74,10 +73,11 @@ checked_ready asked before after opened alone did text ended = (
 )
 
 pub session_came : (asked : Asked) (before after : ShelfState) (begins : Beginning)
-    → Did before after (Opens (IsAccepted asked)) (goes_on begins)
+    → Did before after (OpensSession (IsAccepted asked)) (goes_on begins)
     → Did before after (work_of (Some (session asked))) (goes_on (serves begins))
 session_came asked before after begins did =
-    goes_on_to asked.spec asked.order (Opens (IsAccepted asked)) (λ (it : Beginning). Has (serves it)) before after begins (serves begins)
+    goes_on_to asked.spec asked.order (OpensSession (IsAccepted asked)) (λ (it : Beginning). Has (serves it)) before after begins
+    (serves begins)
     did (has_done Print after (serves begins))
 
 -- words that are no line
@@ -143,31 +143,31 @@ module _ (cells : ℕ) (now : ShelfState) where
   abbrev Accepts : Part Refused Acceptance
   Accepts = AcceptsText (demo_text cells) None []
 
-  pub demo_ready : (opened : Opened) (alone : Alone) → Opens Accepts [] (goes_on (begun opened))
+  pub demo_ready : (opened : Opened) (alone : Alone) → OpensSession Accepts [] (goes_on (begun opened))
       → IsSummary (begun opened).basis (begun opened).progress.situation cells alone.text.items → alone.ended ≡ Done
       → IsReady (Some (demonstration cells)) now now (ready.Alone alone)
   demo_ready opened alone opens summary ended = (
     goes_on (prints (print_in alone)),
     (
       [],
-      gives_none now,
+      gives_nothing now,
       (refl, inr (begun opened, [], [], opens, (refl, (summary, ended)), refl)),
     ),
     refl,
   )
 
-  pub demo_fault : (fault : NotAccepted) (alone : Alone) → FailsAlone (Opens Accepts) fault
+  pub demo_fault : (fault : NotAccepted) (alone : Alone) → FailsAlone (OpensSession Accepts) fault
       → IsFaultPrinted (codes "demo") None fault (print_in alone) → IsReady (Some (demonstration cells)) now now (ready.Alone alone)
   demo_fault (Lacking name) alone failed is = (
     stops (print_in alone),
-    ([], gives_none now, (refl, inr (name.items, inl failed, is))),
+    ([], gives_nothing now, (refl, inr (name.items, inl failed, is))),
     refl,
   )
   demo_fault (Spec r) alone failed is = (
     stops (print_in alone),
     (
       [],
-      gives_none now,
+      gives_nothing now,
       (
         refl,
         inl (inl (
@@ -192,7 +192,7 @@ no_history course none = by course.history.items none
     by [] e = refl
     by (past ∷ pasts) e = absurd (cc e)
 
-pub opened_at_start : (accepts : Part Refused Acceptance) (opened : Opened) → Opens accepts [] (goes_on (begun opened))
+pub opened_at_start : (accepts : Part Refused Acceptance) (opened : Opened) → OpensSession accepts [] (goes_on (begun opened))
     → opened.session.course.history.items ≡ []
 opened_at_start accepts opened opens =
     no_history opened.session.course (opened_on accepts [] (begun opened) opens).begins.can_begin.at_start

@@ -18,7 +18,7 @@ use Rattle.certificate_verbs.specs.declared.ended.Ended.{Ended}
 use Rattle.certificate_verbs.specs.declared.ended.Ended.TheVariants.{NoMemory, OutputFault}
 use Rattle.certificate_verbs.specs.declared.printing.Alone.{Alone}
 use Rattle.lotos_top.specs.Prepared.{begun, CameTo, IsReady}
-use Rattle.lotos_top.specs.Run.{Streams, Writes, whole, in_part, nothing, Prints, ServesSession, in_front, in_want, behind, Follows, Ran}
+use Rattle.lotos_top.specs.Run.{Streams, Writes, whole, in_part, nothing, Prints, ServesSession, in_front, in_want, behind, FollowsFromWork, Ran}
 use Rattle.lotos_top.specs.declared.opening.Opened.{Opened}
 use Rattle.lotos_top.specs.declared.opening.Ready.TheVariants as ready
 
@@ -26,7 +26,8 @@ use Rattle.lotos_top.specs.declared.opening.Ready.TheVariants as ready
 
 -- a text was printed
 pub follows_printed : (comes : Comes Print Finish) (p : Print) (shelf shelf_after : ShelfState) (before after : Streams) (answer : Ended)
-    → printed_by comes ≡ Some p → Prints p shelf shelf_after before after answer → Follows comes shelf shelf_after before after answer
+    → printed_by comes ≡ Some p → Prints p shelf shelf_after before after answer
+    → FollowsFromWork comes shelf shelf_after before after answer
 follows_printed (goes_on (prints q)) p shelf shelf_after before after answer is done =
     subst (λ (it : Print). Prints it shelf shelf_after before after answer) (sym (same_Some q p is)) done
 follows_printed (goes_on (serves begun)) p shelf shelf_after before after answer is done = absurd (none-some p is)
@@ -40,7 +41,7 @@ follows_printed wants_memory p shelf shelf_after before after answer is done = a
 printed_none : (p : Print) (shelf : ShelfState) (now : Streams) → Prints p shelf shelf now now NoMemory
 printed_none p shelf now = record { shelf_kept = refl; input_kept = refl; writes = nothing refl refl }
 
-pub follows_want : (comes : Comes Print Finish) (shelf : ShelfState) (now : Streams) → Follows comes shelf shelf now now NoMemory
+pub follows_want : (comes : Comes Print Finish) (shelf : ShelfState) (now : Streams) → FollowsFromWork comes shelf shelf now now NoMemory
 follows_want (goes_on (prints p)) shelf now = printed_none p shelf now
 follows_want (goes_on (serves begun)) shelf now = in_want refl refl refl
 follows_want (unread name) shelf now = printed_none (unread_printed name) shelf now
@@ -157,7 +158,7 @@ serves_rise begun shelf shelf_after before after answer (behind between last end
 
 -- it never falls behind the work
 pub follows_rise : (comes : Comes Print Finish) (shelf shelf_after : ShelfState) (before after : Streams) (answer : Ended)
-    → Follows comes shelf shelf_after before after answer → shelf.faults ≤ shelf_after.faults
+    → FollowsFromWork comes shelf shelf_after before after answer → shelf.faults ≤ shelf_after.faults
 follows_rise (goes_on (prints p)) shelf shelf_after before after answer done =
     omega (arith, ap (λ (it : ShelfState). it.faults) done.shelf_kept)
 follows_rise (goes_on (serves begun)) shelf shelf_after before after answer done =

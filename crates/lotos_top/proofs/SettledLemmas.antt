@@ -18,7 +18,7 @@ use Rattle.certificate_verbs.proofs.OneCertificate.{checks_over_texts_are_one}
 use Rattle.certificate_verbs.proofs.PartLemmas.{got_alone}
 use Rattle.lotos_top.specs.Flattening.{IsByFounding}
 use Rattle.lotos_top.specs.Opening.{SessionBegins, opening_text}
-use Rattle.lotos_top.specs.Run.{Streams, Follows, Ran}
+use Rattle.lotos_top.specs.Run.{Streams, FollowsFromWork, Ran}
 use Rattle.lotos_top.specs.Settled.{WorkOver, IsFinishFor, IsByAcceptance, AsksFor, DoesWorkOver, IsSettled}
 use Rattle.lotos_top.specs.Parts.{OpensAsked}
 use Rattle.lotos_top.specs.Work.{work_of}
@@ -133,7 +133,7 @@ pub record CertificateLaws : Type 0 where
 
 does : CertificateLaws → (texts : Texts) (line : Option CommandLine) (shelf between shelf_after : ShelfState)
     (before after : Streams) (answer : Ended) (comes : Comes Print Finish) → shelf.texts ≡ Some texts → Did shelf between (work_of line) comes → WorkOver texts line comes
-    → Follows comes between shelf_after before after answer → DoesWorkOver texts line shelf_after before after answer
+    → FollowsFromWork comes between shelf_after before after answer → DoesWorkOver texts line shelf_after before after answer
 does laws texts line shelf between shelf_after before after answer comes told did work follows = record {
   comes = comes;
   work = work;
@@ -148,7 +148,7 @@ does laws texts line shelf between shelf_after before after answer comes told di
 
 settled_by : CertificateLaws → (line : Option CommandLine) (shelf between shelf_after : ShelfState) (before after : Streams)
     (answer : Ended) (texts : Texts) → shelf.texts ≡ Some texts → (¬ Rises shelf.faults between.faults) → (comes : Comes Print Finish)
-    → Did shelf between (work_of line) comes → Follows comes between shelf_after before after answer
+    → Did shelf between (work_of line) comes → FollowsFromWork comes between shelf_after before after answer
     → (answer ≡ NoMemory) ⊎ DoesWorkOver texts line shelf_after before after answer
 settled_by laws line shelf between shelf_after before after answer texts told steady (goes_on finish) did follows =
     inr (does laws texts line shelf between shelf_after before after answer (goes_on finish) told did

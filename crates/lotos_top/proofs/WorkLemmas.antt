@@ -1,18 +1,19 @@
 -- Parts of the work, one after another, over a shelf.
 use Rattle.std.proofs.Common.{◌≡◌, inl, inr, ℕ, List, [], Some, refl, sym, subst}
+use Rattle.certificate_verbs.proofs.HandedOn.{gives_nothing}
 use Rattle.certificate_verbs.specs.HandedOn.{ShelfState, GotFile, Refused, Asked, Acceptance, IsAccepted, Did, goes_on, unread, stops, Part}
 use Rattle.certificate_verbs.specs.HandedOn.{Beginning, session}
 use Rattle.certificate_verbs.specs.Finishing.{Print, Finish, serves}
-use Rattle.certificate_verbs.proofs.PartLemmas.{gives_none, got_alone}
+use Rattle.certificate_verbs.proofs.PartLemmas.{got_alone}
 use Rattle.lotos_top.specs.Opening.{SessionBegins}
-use Rattle.lotos_top.specs.Parts.{Finds, Opens, OpensAsked}
+use Rattle.lotos_top.specs.Parts.{Finds, OpensSession, OpensAsked}
 use Rattle.lotos_top.specs.Work.{work_of}
 
 -- ---- What comes of parts
 
 -- something was found
 pub found : (E : Type 0) {B : Type 0} (a : ShelfState) (Is : B → Type 0) (b : B) → Is b → Did {E = E} a a (Finds Is) (goes_on b)
-found E a Is b is = ([], gives_none a, (refl, is))
+found E a Is b is = ([], gives_nothing a, (refl, is))
 
 -- ---- What came of parts
 
@@ -22,7 +23,7 @@ pub record Opened (accepts : Part Refused Acceptance) (files : List GotFile) (be
   pub accepted : accepts files (goes_on acceptance)
   pub begins : SessionBegins acceptance begun
 
-pub opened_on : (accepts : Part Refused Acceptance) (files : List GotFile) (begun : Beginning) → Opens accepts files (goes_on begun)
+pub opened_on : (accepts : Part Refused Acceptance) (files : List GotFile) (begun : Beginning) → OpensSession accepts files (goes_on begun)
     → Opened accepts files begun
 opened_on accepts files begun (inl ended) = absurd ended
 opened_on accepts files begun (inr then_) = record {
@@ -32,12 +33,12 @@ opened_on accepts files begun (inr then_) = record {
   begins = then_.4.1;
 }
 
-pub opened_unread : (accepts : Part Refused Acceptance) (files : List GotFile) (name : List ℕ) → Opens accepts files (unread name)
+pub opened_unread : (accepts : Part Refused Acceptance) (files : List GotFile) (name : List ℕ) → OpensSession accepts files (unread name)
     → accepts files (unread name)
 opened_unread accepts files name (inl ended) = ended
 opened_unread accepts files name (inr then_) = absurd then_.4
 
-pub opened_stops : (accepts : Part Refused Acceptance) (files : List GotFile) (r : Refused) → Opens accepts files (stops r)
+pub opened_stops : (accepts : Part Refused Acceptance) (files : List GotFile) (r : Refused) → OpensSession accepts files (stops r)
     → accepts files (stops r)
 opened_stops accepts files r (inl ended) = ended
 opened_stops accepts files r (inr then_) = absurd then_.4

@@ -2,7 +2,7 @@
 use Rattle.std.specs.Prelude.{◌≡◌, ℕ, List, [], ◌∷◌, ◌++◌, Option, None, Some}
 use Rattle.lotos_base.specs.Term.{Term}
 use Rattle.line_server.specs.Writing.{WritesAll}
-use Rattle.certificate_verbs.specs.HandedOn.{Acceptance, IsAccepted, asked_for, ShelfState, GotFile, Gives, goes_on, ArePairLines}
+use Rattle.certificate_verbs.specs.HandedOn.{Acceptance, IsAccepted, asked_acceptance, ShelfState, GotFile, Gives, goes_on, ArePairLines}
 use Rattle.certificate_verbs.specs.HandedOn.{CommandLine, Compared, bisimilarity, CertificateLine, AreShownBisimilar, DoTheSame}
 use Rattle.certificate_verbs.specs.HandedOn.{AreSameData}
 use Rattle.certificate_verbs.specs.Certificates.{bisimilar_text}
@@ -20,8 +20,8 @@ pub record AreFoundBisimilar (c : Compared) (files : List GotFile) (number : ℕ
   pub other : Acceptance
   pub files_of_one : List GotFile
   pub files_of_other : List GotFile
-  pub one_accepted : IsAccepted (asked_for c.spec None []) files_of_one (goes_on one)
-  pub other_accepted : IsAccepted (asked_for c.other None []) files_of_other (goes_on other)
+  pub one_accepted : IsAccepted (asked_acceptance c.spec None []) files_of_one (goes_on one)
+  pub other_accepted : IsAccepted (asked_acceptance c.other None []) files_of_other (goes_on other)
   pub same : AreSameData one.data_ other.data_
   pub text : List ℕ
   pub lines : List CertificateLine

@@ -12,8 +12,9 @@ abbrev pub flat_printed : Founded → Print
 flat_printed founded = print (flat_text founded.data_ founded.spec) Done
 
 -- the text of the specification under the one name, with the order file under the other one, if there is one
-abbrev pub Flattens : (spec : List ℕ) (order : Option (List ℕ)) → Part Print Finish
-Flattens spec order = Then (Telling (refusal_printed spec order) (IsFounded spec order)) (λ founded. Has (prints (flat_printed founded)))
+abbrev pub FlattensSpecification : (spec : List ℕ) (order : Option (List ℕ)) → Part Print Finish
+FlattensSpecification spec order =
+    Then (Telling (refusal_printed spec order) (IsFounded spec order)) (λ founded. Has (prints (flat_printed founded)))
 
 -- what comes of that, by what comes of the specification up to the book of its data
 abbrev pub flattened_by : (spec : List ℕ) (order : Option (List ℕ)) → Comes Refused Founded → Comes Print Finish

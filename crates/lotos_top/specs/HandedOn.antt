@@ -2,7 +2,7 @@
 pub use Rattle.certificate_verbs.specs.Finishing.{print, Finish, prints, serves, Print, refusal_printed}
 pub use Rattle.certificate_verbs.specs.HandedOn.{Asked, Founded, FoundedBy, Acceptance, IsAccepted, start_of, AcceptsText, Founds, session}
 pub use Rattle.certificate_verbs.specs.HandedOn.{IsFounded, StartsWithValues, accepted_with, founded_with, DataAreWellFormed, ComesOfPart}
-pub use Rattle.certificate_verbs.specs.HandedOn.{ComesOver, got_from, asked_for, Opens, OpensBook, ComesToAgreement, FunctionalitiesAgree}
+pub use Rattle.certificate_verbs.specs.HandedOn.{ComesOver, got_from, asked_acceptance, Opens, OpensBook, ComesToAgreement, FunctionalitiesAgree}
 pub use Rattle.certificate_verbs.specs.HandedOn.{Guarded, IsGuardedIn, KeepsSpecification, Disagree, FunctionalityFault, differ_at, Did}
 pub use Rattle.certificate_verbs.specs.HandedOn.{with_spec, ShelfState, GotFile, Gives, StartValuesAreGround, Gathered, GatheringOutcome}
 pub use Rattle.certificate_verbs.specs.HandedOn.{all_gathered, faulty, without_file, memory_wanted, Becomes, nothing_yet, item, with_type}

@@ -3,7 +3,7 @@
 use Rattle.std.specs.Prelude.{◌≡◌, ℕ, List, [], ◌∷◌, ◌++◌, Option, None, Some, slice_get}
 use Rattle.lotos_base.specs.Equation.{Equation}
 use Rattle.line_server.specs.Writing.{WritesAll}
-use Rattle.certificate_verbs.specs.HandedOn.{Acceptance, IsAccepted, asked_for, ShelfState, GotFile, Gives, goes_on, Lemma}
+use Rattle.certificate_verbs.specs.HandedOn.{Acceptance, IsAccepted, asked_acceptance, ShelfState, GotFile, Gives, goes_on, Lemma}
 use Rattle.certificate_verbs.specs.HandedOn.{HoldsByInduction, IsMetBy, stated, CommandLine, Induced, induction}
 use Rattle.certificate_verbs.specs.Inducing.{IsReport}
 use Rattle.certificate_verbs.specs.declared.ended.Ended.{Ended}
@@ -16,7 +16,7 @@ use Rattle.lotos_top.specs.Run.{Streams}
 pub record IsFoundInductive (i : Induced) (files : List GotFile) (report : List ℕ) : Type 0 where
   pub one : Acceptance
   pub files_of_one : List GotFile
-  pub accepted : IsAccepted (asked_for i.spec None []) files_of_one (goes_on one)
+  pub accepted : IsAccepted (asked_acceptance i.spec None []) files_of_one (goes_on one)
   pub text : List ℕ
   pub all_files : files ≡ files_of_one ++ (record { name = i.proofs; bytes = text } ∷ [])
   pub is_report : IsReport i.spec one text report

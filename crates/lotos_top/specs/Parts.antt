@@ -13,12 +13,12 @@ Finds Is files (stops e) = ⊥
 Finds Is files wants_memory = files ≡ []
 
 -- a specification is accepted, and its session begins
-abbrev pub Opens : Part Refused Acceptance → Part Refused Beginning
-Opens accepts = Then accepts (λ acceptance. Finds (SessionBegins acceptance))
+abbrev pub OpensSession : Part Refused Acceptance → Part Refused Beginning
+OpensSession accepts = Then accepts (λ acceptance. Finds (SessionBegins acceptance))
 
 -- the same, where a refusal is printed as its line
 abbrev pub OpensAsked : Asked → Part Print Beginning
-OpensAsked asked = Telling (refusal_printed asked.spec asked.order) (Opens (IsAccepted asked))
+OpensAsked asked = Telling (refusal_printed asked.spec asked.order) (OpensSession (IsAccepted asked))
 
 -- The same part where there is no file: none is got, and where one is asked for, the line that it could not be got is printed.
 abbrev pub WithoutFiles : Part Print Finish → Part Print Finish

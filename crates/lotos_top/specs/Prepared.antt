@@ -4,7 +4,7 @@ use Rattle.certificate_verbs.specs.HandedOn.{ShelfState, book_canon, Refused, re
 use Rattle.certificate_verbs.specs.HandedOn.{NotAccepted, File, Spec as Refuses, NoMemory, basis_of, reached, HistoryLines, basis_over}
 use Rattle.certificate_verbs.specs.HandedOn.{progress_of, IsLawfulSession, Beginning, CommandLine}
 use Rattle.sort_terms.specs.EquationView.{data_of}
-use Rattle.menu_parts.specs.KeptMenus.{Suits}
+use Rattle.menu_parts.specs.KeptMenus.{MakerSuits}
 use Rattle.menu_parts.specs.declared.makers.PartMenus.{PartMenus}
 use Rattle.certificate_verbs.specs.Finishing.{Print, Finish, serves}
 use Rattle.certificate_verbs.specs.Printed.{print_in, printed_by}
@@ -29,7 +29,7 @@ beginning_of lines = record { basis = basis_of lines; progress = reached lines }
 
 -- the session is lawful over the data of its book
 abbrev pub IsLawfulAt : Opened → Type 0
-IsLawfulAt opened = IsLawfulSession Suits (data_of opened.book.flat) (book_canon opened.book) opened.session
+IsLawfulAt opened = IsLawfulSession MakerSuits (data_of opened.book.flat) (book_canon opened.book) opened.session
 
 -- ---- What came of the work
 

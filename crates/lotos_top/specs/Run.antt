@@ -71,12 +71,12 @@ pub record Stops (shelf shelf_after : ShelfState) (before after : Streams) (answ
   pub kept : after ≡ before
 
 -- what follows from what came of the work
-abbrev pub Follows : Comes Print Finish → (shelf shelf_after : ShelfState) → (before after : Streams) → Ended → Type 0
-Follows (goes_on (prints p)) shelf shelf_after before after answer = Prints p shelf shelf_after before after answer
-Follows (goes_on (serves begun)) shelf shelf_after before after answer = ServesSession begun shelf shelf_after before after answer
-Follows (unread name) shelf shelf_after before after answer = Prints (unread_printed name) shelf shelf_after before after answer
-Follows (stops p) shelf shelf_after before after answer = Prints p shelf shelf_after before after answer
-Follows wants_memory shelf shelf_after before after answer = Stops shelf shelf_after before after answer
+abbrev pub FollowsFromWork : Comes Print Finish → (shelf shelf_after : ShelfState) → (before after : Streams) → Ended → Type 0
+FollowsFromWork (goes_on (prints p)) shelf shelf_after before after answer = Prints p shelf shelf_after before after answer
+FollowsFromWork (goes_on (serves begun)) shelf shelf_after before after answer = ServesSession begun shelf shelf_after before after answer
+FollowsFromWork (unread name) shelf shelf_after before after answer = Prints (unread_printed name) shelf shelf_after before after answer
+FollowsFromWork (stops p) shelf shelf_after before after answer = Prints p shelf shelf_after before after answer
+FollowsFromWork wants_memory shelf shelf_after before after answer = Stops shelf shelf_after before after answer
 
 -- The run did the work of its words, over what the shelf gave, and then what follows from what came of it. The shelf stood so
 -- between the two.
@@ -84,4 +84,4 @@ pub record Ran (line : Option CommandLine) (shelf shelf_after : ShelfState) (bef
   pub comes : Comes Print Finish
   pub between : ShelfState
   pub did : Did shelf between (work_of line) comes
-  pub follows : Follows comes between shelf_after before after answer
+  pub follows : FollowsFromWork comes between shelf_after before after answer

@@ -11,7 +11,7 @@ use Rattle.certificate_verbs.specs.declared.ended.Ended.{Ended}
 use Rattle.certificate_verbs.specs.declared.ended.Ended.TheVariants.{Done, NoMemory}
 use Rattle.lotos_top.specs.Flattening.{IsByFounding}
 use Rattle.lotos_top.specs.Opening.{SessionBegins, opening_text}
-use Rattle.lotos_top.specs.Run.{Streams, Follows}
+use Rattle.lotos_top.specs.Run.{Streams, FollowsFromWork}
 use Rattle.lotos_top.specs.Work.{work_of}
 
 -- this comes of the work of the line over these texts, where memory is there
@@ -54,7 +54,7 @@ pub record DoesWorkOver (texts : Texts) (line : Option CommandLine) (shelf_after
   pub by_induction : (i : Induced) → line ≡ Some (induction i) → IsOneInduction texts i comes
   pub between : ShelfState
   pub texts_between : between.texts ≡ Some texts
-  pub follows : Follows comes between shelf_after before after answer
+  pub follows : FollowsFromWork comes between shelf_after before after answer
 
 -- Where the shelf tells its texts and counts no fault, the run did what comes of the work over these texts; or memory was wanted.
 abbrev pub IsSettled : Option CommandLine → (shelf shelf_after : ShelfState) → (before after : Streams) → Ended → Type 0

@@ -7,8 +7,8 @@ use Rattle.certificate_verbs.specs.Comparing.{ChecksCertificate}
 use Rattle.certificate_verbs.specs.Inducing.{ChecksInduction}
 use Rattle.certificate_verbs.specs.declared.ended.Ended.TheVariants.{Done, WordsRefused}
 use Rattle.lotos_top.specs.Opening.{opening_text}
-use Rattle.lotos_top.specs.Parts.{Finds, Opens, OpensAsked, WithoutFiles}
-use Rattle.lotos_top.specs.Flattening.{Flattens}
+use Rattle.lotos_top.specs.Parts.{Finds, OpensSession, OpensAsked, WithoutFiles}
+use Rattle.lotos_top.specs.Flattening.{FlattensSpecification}
 
 -- the summary of the walk through a session that begins so
 abbrev pub IsSummaryPrinted : ℕ → Beginning → Finish → Type 0
@@ -18,7 +18,7 @@ IsSummaryPrinted cells begun (prints p) = IsSummary begun.basis begun.progress.s
 -- the text of a demonstration is accepted as one with the name `demo`, and its walk is summed up
 abbrev pub Demonstrates : ℕ → Part Print Finish
 Demonstrates cells =
-    WithoutFiles (Then (Telling (refusal_printed (codes "demo") None) (Opens (AcceptsText (demo_text cells) None [])))
+    WithoutFiles (Then (Telling (refusal_printed (codes "demo") None) (OpensSession (AcceptsText (demo_text cells) None [])))
     (λ begun. Finds (IsSummaryPrinted cells begun)))
 
 -- words that are no line, and each line
@@ -27,6 +27,6 @@ work_of None = Has (prints (print usage_text WordsRefused))
 work_of (Some (check asked)) = Then (OpensAsked asked) (λ begun. Has (prints (print (opening_text begun) Done)))
 work_of (Some (session asked)) = Then (OpensAsked asked) (λ begun. Has (serves begun))
 work_of (Some (demonstration cells)) = Demonstrates cells
-work_of (Some (flattening spec order)) = Flattens spec order
+work_of (Some (flattening spec order)) = FlattensSpecification spec order
 work_of (Some (bisimilarity c)) = ChecksCertificate c
 work_of (Some (induction i)) = ChecksInduction i

@@ -2,7 +2,7 @@
 
 ghost use Rattle.certificate_verbs.specs.HandedOn.{
   bisimilarity,
-  compared as names_compared,
+  compared_files as names_compared,
   induced as names_induced,
   induction,
   shelf_state,

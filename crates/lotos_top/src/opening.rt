@@ -12,7 +12,7 @@ ghost use Rattle.certificate_verbs.specs.HandedOn.{
   IsSummary,
   ShelfState,
   are_within,
-  asked_for,
+  asked_acceptance,
   check,
   command_line,
   demonstration,
@@ -29,7 +29,7 @@ ghost use Rattle.certificate_verbs.specs.declared.ended.Ended.TheVariants.{
 };
 ghost use Rattle.lotos_base.specs.Name.{spelling};
 ghost use Rattle.lotos_top.specs.Opening.{SessionBegins, opening_text};
-ghost use Rattle.lotos_top.specs.Parts.{Opens};
+ghost use Rattle.lotos_top.specs.Parts.{OpensSession};
 ghost use Rattle.lotos_top.specs.Prepared.{
   CameTo,
   FailsAlone,
@@ -148,11 +148,12 @@ fn checked<F: Shelf>(
 ) -> Result<Ready, NoMemory>
     requires { IsTrue (are_within (words_of values.now)) }
     ensures { MatchResult result
-        (IsReady (Some (check (asked_for spec.now (option_map (λ word. word.now) order.entry)
+        (IsReady (Some (check (asked_acceptance spec.now (option_map (λ word. word.now) order.entry)
         (words_of values.now))))
         (shelf_state (F.texts shelf.old) (F.faults shelf.old) (F.calls shelf.old))
         (shelf_state (F.texts shelf.new) (F.faults shelf.new) (F.calls shelf.new)))
-        (λ _. CameTo (Some (check (asked_for spec.now (option_map (λ word. word.now) order.entry)
+        (λ _. CameTo
+        (Some (check (asked_acceptance spec.now (option_map (λ word. word.now) order.entry)
         (words_of values.now))))
         (shelf_state (F.texts shelf.old) (F.faults shelf.old) (F.calls shelf.old))
         (shelf_state (F.texts shelf.new) (F.faults shelf.new) (F.calls shelf.new))) }
@@ -173,11 +174,13 @@ fn served<F: Shelf>(
 ) -> Result<Ready, NoMemory>
     requires { IsTrue (are_within (words_of values.now)) }
     ensures { MatchResult result
-        (IsReady (Some (session (asked_for spec.now (option_map (λ word. word.now) order.entry)
+        (IsReady
+        (Some (session (asked_acceptance spec.now (option_map (λ word. word.now) order.entry)
         (words_of values.now))))
         (shelf_state (F.texts shelf.old) (F.faults shelf.old) (F.calls shelf.old))
         (shelf_state (F.texts shelf.new) (F.faults shelf.new) (F.calls shelf.new)))
-        (λ _. CameTo (Some (session (asked_for spec.now (option_map (λ word. word.now) order.entry)
+        (λ _. CameTo
+        (Some (session (asked_acceptance spec.now (option_map (λ word. word.now) order.entry)
         (words_of values.now))))
         (shelf_state (F.texts shelf.old) (F.faults shelf.old) (F.calls shelf.old))
         (shelf_state (F.texts shelf.new) (F.faults shelf.new) (F.calls shelf.new))) }
@@ -200,12 +203,14 @@ pub fn open<F: Shelf>(
     ensures { MatchResult result
         (λ opened. Did (shelf_state (F.texts shelf.old) (F.faults shelf.old) (F.calls shelf.old))
         (shelf_state (F.texts shelf.new) (F.faults shelf.new) (F.calls shelf.new))
-        (Opens (IsAccepted (asked_for spec.now (option_map (λ word. word.now) order.entry)
+        (OpensSession
+        (IsAccepted (asked_acceptance spec.now (option_map (λ word. word.now) order.entry)
         (words_of values.now))))
         (goes_on (begun opened)) × IsLawfulAt opened)
         (Failed (shelf_state (F.texts shelf.old) (F.faults shelf.old) (F.calls shelf.old))
         (shelf_state (F.texts shelf.new) (F.faults shelf.new) (F.calls shelf.new))
-        (Opens (IsAccepted (asked_for spec.now (option_map (λ word. word.now) order.entry)
+        (OpensSession
+        (IsAccepted (asked_acceptance spec.now (option_map (λ word. word.now) order.entry)
         (words_of values.now))))) }
 {
     let accepted = Accepted::read(alloc, spec, order, values, shelf)?;
@@ -215,9 +220,9 @@ pub fn open<F: Shelf>(
 // The same of a specification with this text, where there is no file.
 fn open_text(alloc: Global, text: &[u8]) -> Result<Opened, NotAccepted>
     ensures { MatchResult result
-        (λ opened. Opens (AcceptsText text.now None []) [] (goes_on (begun opened))
+        (λ opened. OpensSession (AcceptsText text.now None []) [] (goes_on (begun opened))
         × IsLawfulAt opened)
-        (FailsAlone (Opens (AcceptsText text.now None []))) }
+        (FailsAlone (OpensSession (AcceptsText text.now None []))) }
 {
     let mut no_files = MemShelf::new(Vec::new(alloc), Vec::new(alloc));
     let accepted = Accepted::of_text(alloc, text, None, &[], &mut no_files)?;

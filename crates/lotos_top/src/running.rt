@@ -11,7 +11,7 @@ ghost use Rattle.lotos_top.specs.Opening.{opening_text};
 ghost use Rattle.lotos_top.specs.Prepared.{IsLawfulAt, beginning_of, begun};
 ghost use Rattle.lotos_top.specs.Run.{Ran, ServesSession, Writes, ended_by, streams};
 ghost use Rattle.lotos_top.specs.Settled.{IsSettled};
-ghost use Rattle.menu_parts.specs.KeptMenus.{Suits};
+ghost use Rattle.menu_parts.specs.KeptMenus.{MakerSuits};
 ghost use Rattle.sort_terms.specs.SignatureView.{signature_of};
 ghost use Rattle.std.specs.Prelude.{◌≡◌, MatchResult};
 
@@ -235,7 +235,7 @@ fn serve_behind<F: Shelf, S: Source, K: Sink>(
     output: &mut K,
 ) -> Ended
     requires text { text.now ≡ opening_text (beginning_of lines.old) }
-    requires serving { IsServing Suits lines.old }
+    requires serving { IsServing MakerSuits lines.old }
     ensures { ServesSession (beginning_of lines.old)
         (shelf_state (F.texts shelf.old) (F.faults shelf.old) (F.calls shelf.old))
         (shelf_state (F.texts shelf.new) (F.faults shelf.new) (F.calls shelf.new))

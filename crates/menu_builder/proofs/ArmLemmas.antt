@@ -154,6 +154,16 @@ par_call_less rank processes b number gates arguments n is less =
 pub left_of : (x y n : ℕ) → x < y → y ≡ n → x < n
 left_of x y n less same = subst (λ (k : ℕ). x < k) same less
 
+-- Three times as much and one more, so that the gathering of choices has room between.
+pub left_in : (x y n : ℕ) → x < y → 3 * y + 1 ≡ n → 3 * x + 1 < n
+left_in x y n less same = omega arith
+
+pub gather_left : (x n : ℕ) → 3 * x + 1 ≡ n → 3 * x < n
+gather_left x n same = omega arith
+
+pub side_left : (x y n : ℕ) → x < y → 3 * (2 * y) ≡ n → 3 * (2 * x + 1) + 2 < n
+side_left x y n less same = omega arith
+
 -- ---- A gate `par` by the form of its part.
 module _ (basis : Basis) (first : ℕ) (pairs : List (ℕ × ProfiledTerm)) (g : ℕ) (gates : List ℕ) (meet : SynchronisationSet) (b form : Beh)
     (is : b ≡ form) where

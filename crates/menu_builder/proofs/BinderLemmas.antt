@@ -13,7 +13,7 @@ use Rattle.sort_terms.specs.declared.equations.Variable.{Variable}
 use Rattle.sort_terms.specs.declared.sorted.Sorted.{Sorted}
 use Rattle.term_match.specs.SubstView.{profiled_pair, profiled_pairs}
 use Rattle.behaviour_tree.specs.BehaviourView.{let_of, terms_of, variables_of}
-use Rattle.behaviour_tree.specs.StateView.{environment_of, pair_of}
+use Rattle.behaviour_tree.specs.StateView.{environment_of, environment_pair_of}
 use Rattle.draft_parts.specs.Environments.{ArePairsOf}
 use Rattle.draft_parts.proofs.TurnLemmas.{one_turn, pushed}
 use Rattle.draft_parts.specs.BelowLaws.{binder_pairs}
@@ -39,7 +39,8 @@ module _ (canon : Term → Term) (others : List (ℕ × Term)) where
       one_turn
       (λ (k : ℕ) (bs : List (Variable × Sorted)). binder_pairs canon (let_variables (map let_of bs)) (let_terms (map let_of bs)) others)
       bindings i b (environment_of pairs) (environment_of more) whole 0 0 within is
-      (λ rest. pushed pair_of pairs more (b.0.number, value) (b.0.number, canon (substituted (binding others) (term_in b.1))) _ _ m
+      (λ rest. pushed environment_pair_of pairs more (b.0.number, value)
+      (b.0.number, canon (substituted (binding others) (term_in b.1))) _ _ m
       (ap (λ (t : Term). (b.0.number, t)) e) refl)
       before
 
@@ -57,7 +58,7 @@ module _ (canon : Term → Term) (others : List (ℕ × Term)) where
       drop-cons terms i t inside ∙ ap (λ (u : Sorted). u ∷ drop (suc i) terms) (sym at) in
       ap (λ (j : ℕ). environment_of more ++ binder_pairs canon (variables_of (drop j parameters)) (terms_of (drop j terms)) others)
       (add-one i)
-      ∙ (pushed pair_of pairs more (x.number, value) (x.number, canon (substituted (binding others) (term_in t))) _ _ m
+      ∙ (pushed environment_pair_of pairs more (x.number, value) (x.number, canon (substituted (binding others) (term_in t))) _ _ m
       (ap (λ (u : Term). (x.number, u)) e) refl
       ∙ (ap (λ (xs : List Variable). environment_of pairs
       ++ binder_pairs canon (variables_of xs) (terms_of (t ∷ drop (suc i) terms)) others)

@@ -1,3 +1,5 @@
+pub mod SharedShapeLemmas
+pub mod ChoiceLemmas
 pub mod NumberLemmas
 pub mod NodeLemmas
 pub mod SolvedLemmas
@@ -10,6 +12,7 @@ pub mod CallLemmas
 pub mod ListedLemmas
 pub mod EffortLemmas
 pub mod WholeLemmas
+pub mod GatherLemmas
 pub mod OpenMenuLemmas
 pub mod ClosedPartLemmas
 pub mod MenuNumberLemmas

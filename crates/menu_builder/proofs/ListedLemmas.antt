@@ -5,7 +5,7 @@ use Rattle.lotos_base.specs.Signature.{Signature}
 use Rattle.lotos_base.specs.Term.{Term, variable}
 use Rattle.lotos_base.specs.Equation.{Variable}
 use Rattle.lotos_base.specs.Substitution.{Substitution, binding, without}
-use Rattle.behaviour_semantics.specs.Behaviour.{Behaviour, stop, exit_with, action, inner_action, guard, choice, parallel, hide, enable, disable, let_be, choose_value, choose_gate, par_gate, call, relabel, SynchronisationSet, Relabelling, Process, asked_variables, numbers_of, sorts_of, let_variables, let_terms}
+use Rattle.behaviour_semantics.specs.Behaviour.{Behaviour, stop, exit_with, action, inner_action, guard, parallel, hide, enable, disable, let_be, choose_value, choose_gate, par_gate, call, relabel, SynchronisationSet, Relabelling, Process, asked_variables, numbers_of, sorts_of, let_variables, let_terms}
 use Rattle.behaviour_semantics.specs.Draft as plain
 use Rattle.behaviour_semantics.specs.Draft.{above, above_variables, above_processes}
 use Rattle.behaviour_semantics.specs.Label.{gate_under, under}
@@ -38,11 +38,11 @@ use Rattle.draft_parts.proofs.FormLemmas.{forms}
 use Rattle.draft_parts.proofs.GivenLemmas.{from_base}
 use Rattle.draft_parts.proofs.RowLemmas.{rows}
 use Rattle.draft_parts.proofs.ShadowLemmas.{raises}
-use Rattle.draft_parts.specs.Made.{AreThese, inner_of}
-use Rattle.menu_builder.specs.Placed.{Basis, Position, StandsAt, AreDraftsPlaced, setting_on}
-use Rattle.menu_builder.proofs.PlaceLemmas.{guard_part, choice_left, choice_right, parallel_left, parallel_right, hide_part, enable_part, disable_left, disable_right, gate_part, par_part, let_part, value_part, call_part}
+use Rattle.draft_parts.specs.Made.{AreThese, draft_of_inner}
+use Rattle.menu_builder.specs.Placed.{Basis, Position, StandsAt, AreDraftsPlaced, setting_on_basis}
+use Rattle.menu_builder.proofs.PlaceLemmas.{guard_part, parallel_left, parallel_right, hide_part, enable_part, disable_left, disable_right, gate_part, par_part, let_part, value_part, call_part}
 
-unchanged_gates : (gates : List ℕ) → map (gate_under []) gates ≡ gates
+pub unchanged_gates : (gates : List ℕ) → map (gate_under []) gates ≡ gates
 unchanged_gates [] = refl
 unchanged_gates (g ∷ gates) = ap (λ (gs : List ℕ). g ∷ gs) (unchanged_gates gates)
 
@@ -59,7 +59,7 @@ module _ (basis : Basis) (first : ℕ) (pairs : List (ℕ × ProfiledTerm)) wher
   values = binding (bare_pairs pairs)
 
   abbrev pub Has : Position → Behaviour → List plain.Draft → Type 0
-  Has at b drafts = HasDrafts (setting_on basis) at.base at.next (with_values values b) drafts
+  Has at b drafts = HasDrafts (setting_on_basis basis) at.base at.next (with_values values b) drafts
 
   abbrev pub Listed : Behaviour → List ProfiledTerm → List Draft → Type 0
   Listed b terms made = AreDraftsPlaced basis first b terms pairs made
@@ -84,21 +84,22 @@ module _ (basis : Basis) (first : ℕ) (pairs : List (ℕ × ProfiledTerm)) wher
   stop_listed terms made e =
       as_made stop terms [] made
       (record { same = ap plain_drafts e; over = subst (λ (ds : List Draft). Every (HasTermsOf basis.data_.signature) ds) (sym e) tt })
-      (λ at numbered stands. forms.of_stop (setting_on basis) at.base at.next)
+      (λ at numbered stands. forms.of_stop (setting_on_basis basis) at.base at.next)
 
   -- one draft alone
-  pub inner_listed : (b : Behaviour) (terms : List ProfiledTerm) (made : List Draft) → These (inner_of ∷ []) made
+  pub inner_listed : (b : Behaviour) (terms : List ProfiledTerm) (made : List Draft) → These (draft_of_inner ∷ []) made
       → Listed (inner_action b) terms made
   inner_listed b terms made t =
-      as_made (inner_action b) terms (inner_of ∷ []) made t
-      (λ at numbered stands. forms.of_inner (setting_on basis) at.base at.next (with_values values b))
+      as_made (inner_action b) terms (draft_of_inner ∷ []) made t
+      (λ at numbered stands. forms.of_inner (setting_on_basis basis) at.base at.next (with_values values b))
 
   pub exit_listed : (results : List ExitValue) (terms : List ProfiledTerm) (made : List Draft)
       → These (ended_with basis.canon results pairs first ∷ []) made
       → Listed (exit_with (map exit_value_of results)) terms made
   exit_listed results terms made t =
       as_made (exit_with (map exit_value_of results)) terms (ended_with basis.canon results pairs first ∷ []) made t
-      (λ at numbered stands. forms.of_exit (setting_on basis) at.base at.next (map (exit_value_with values) (map exit_value_of results))
+      (λ at numbered stands. forms.of_exit (setting_on_basis basis) at.base at.next
+      (map (exit_value_with values) (map exit_value_of results))
       (ended_with basis.canon results pairs first)
       (λ m e. ap (ended_with basis.canon results pairs) numbered
       ∙ exits_have basis.data_.signature basis.canon basis.specification.processes at.base at.next results pairs m
@@ -113,7 +114,7 @@ module _ (basis : Basis) (first : ℕ) (pairs : List (ℕ × ProfiledTerm)) wher
       let whole : max (above_processes basis.specification.processes)
       (max (above_variables (asked_variables (map offer_of offers))) (above b)) ≤ at.base = stands.below.apart in
       let low : above_variables (asked_variables (map offer_of offers)) ≤ at.base = omega arith in
-      forms.of_action (setting_on basis) at.base at.next g (map (offer_with values) (map offer_of offers))
+      forms.of_action (setting_on_basis basis) at.base at.next g (map (offer_with values) (map offer_of offers))
       (option_map (test_with (without (numbers_of (asked_variables (map offer_of offers))) values)) (option_map test_of test))
       (with_values (without (numbers_of (asked_variables (map offer_of offers))) values) b)
       (acted basis.canon g offers test pairs first)
@@ -127,24 +128,16 @@ module _ (basis : Basis) (first : ℕ) (pairs : List (ℕ × ProfiledTerm)) wher
       → Listed (guard (test_of test) b) (test_profiles test ++ terms) made
   guard_listed test b terms parts made h t =
       as_made (guard (test_of test) b) (test_profiles test ++ terms) _ made t
-      (λ at numbered stands. forms.of_guard (setting_on basis) at.base at.next (test_with values (test_of test)) (with_values values b)
+      (λ at numbered stands. forms.of_guard (setting_on_basis basis) at.base at.next (test_with values (test_of test))
+      (with_values values b)
       (plain_drafts parts) (h.drafts at numbered (guard_part basis at pairs test b terms stands)))
-
-  pub choice_listed : (b c : Behaviour) (terms others : List ProfiledTerm) (lefts rights made : List Draft) → Listed b terms lefts
-      → Listed c others rights → These (either_drafts (plain_drafts lefts) (plain_drafts rights)) made
-      → Listed (choice b c) (terms ++ others) made
-  choice_listed b c terms others lefts rights made h k t =
-      as_made (choice b c) (terms ++ others) _ made t
-      (λ at numbered stands. forms.of_choice (setting_on basis) at.base at.next (with_values values b) (with_values values c)
-      (plain_drafts lefts) (plain_drafts rights) (h.drafts at numbered (choice_left basis at pairs b c terms others stands))
-      (k.drafts at numbered (choice_right basis at pairs b c terms others stands)))
 
   pub disable_listed : (b c : Behaviour) (terms others : List ProfiledTerm) (lefts rights made : List Draft) → Listed b terms lefts
       → Listed c others rights → These (either_drafts (plain_drafts lefts) (plain_drafts rights)) made
       → Listed (disable b c) (terms ++ others) made
   disable_listed b c terms others lefts rights made h k t =
       as_made (disable b c) (terms ++ others) _ made t
-      (λ at numbered stands. forms.of_disable (setting_on basis) at.base at.next (with_values values b) (with_values values c)
+      (λ at numbered stands. forms.of_disable (setting_on_basis basis) at.base at.next (with_values values b) (with_values values c)
       (plain_drafts lefts) (plain_drafts rights) (h.drafts at numbered (disable_left basis at pairs b c terms others stands))
       (k.drafts at numbered (disable_right basis at pairs b c terms others stands)))
 
@@ -158,7 +151,7 @@ module _ (basis : Basis) (first : ℕ) (pairs : List (ℕ × ProfiledTerm)) wher
       let right : StandsAt basis at c others pairs = parallel_right basis at pairs meet b c terms others stands in
       at_first at (parallel meet b c)
       (λ (n : ℕ). beside_drafts basis.data_.signature meet n (plain_drafts lefts) (plain_drafts rights)) numbered
-      (forms.of_parallel (setting_on basis) at.base at.next meet (with_values values b) (with_values values c)
+      (forms.of_parallel (setting_on_basis basis) at.base at.next meet (with_values values b) (with_values values c)
       (plain_drafts lefts) (plain_drafts rights) (h.drafts at numbered (parallel_left basis at pairs meet b c terms others stands))
       (k.drafts at numbered right)
       (raises basis.data_ basis.canon basis.specification at.scope (bare_pairs pairs) c right.below.is_canon right.below.well_formed
@@ -169,7 +162,7 @@ module _ (basis : Basis) (first : ℕ) (pairs : List (ℕ × ProfiledTerm)) wher
       → Listed (hide gates b) terms made
   hide_listed gates b terms parts made h t =
       as_made (hide gates b) terms _ made t
-      (λ at numbered stands. forms.of_hide (setting_on basis) at.base at.next gates (with_values values b) (plain_drafts parts)
+      (λ at numbered stands. forms.of_hide (setting_on_basis basis) at.base at.next gates (with_values values b) (plain_drafts parts)
       (h.drafts at numbered (hide_part basis at pairs gates b terms stands)))
 
   pub enable_listed : (b : Behaviour) (variables : List Variable) (c : Behaviour) (terms others : List ProfiledTerm)
@@ -178,7 +171,7 @@ module _ (basis : Basis) (first : ℕ) (pairs : List (ℕ × ProfiledTerm)) wher
       → Listed (enable b variables c) (terms ++ others) made
   enable_listed b variables c terms others parts made h t =
       as_made (enable b variables c) (terms ++ others) _ made t
-      (λ at numbered stands. forms.of_enable (setting_on basis) at.base at.next (with_values values b) variables
+      (λ at numbered stands. forms.of_enable (setting_on_basis basis) at.base at.next (with_values values b) variables
       (with_values (without (numbers_of variables) values) c) (plain_drafts parts)
       (h.drafts at numbered (enable_part basis at pairs b variables c terms others stands)))
 
@@ -186,7 +179,7 @@ module _ (basis : Basis) (first : ℕ) (pairs : List (ℕ × ProfiledTerm)) wher
       → Listed b terms parts → These (gate_drafts g 0 gates (plain_drafts parts)) made → Listed (choose_gate g gates b) terms made
   gates_listed g gates b terms parts made h t =
       as_made (choose_gate g gates b) terms _ made t
-      (λ at numbered stands. forms.of_gates (setting_on basis) at.base at.next g gates (with_values values b) (plain_drafts parts)
+      (λ at numbered stands. forms.of_gates (setting_on_basis basis) at.base at.next g gates (with_values values b) (plain_drafts parts)
       (h.drafts at numbered (gate_part basis at pairs g gates b terms stands)))
 
   -- ---- Below binders.
@@ -206,7 +199,8 @@ module _ (basis : Basis) (first : ℕ) (pairs : List (ℕ × ProfiledTerm)) wher
       as_made (let_be (map let_of bindings) b) (map let_profile bindings ++ terms) _ made t
       (λ at numbered stands.
       (binders at).of_let (map let_of bindings) b (plain_drafts parts) stands.below
-      (subst (λ (ps : List (ℕ × Term)). HasDrafts (setting_on basis) at.base at.next (with_values (binding ps) b) (plain_drafts parts)) is
+      (subst (λ (ps : List (ℕ × Term)). HasDrafts (setting_on_basis basis) at.base at.next (with_values (binding ps) b)
+      (plain_drafts parts)) is
       (h.drafts (record { base = at.base; next = at.next; scope = let_variables (map let_of bindings) ++ at.scope }) numbered
       (let_part basis at pairs bindings b terms inner stands is (of_signature stands.values)))))
 
@@ -222,7 +216,7 @@ module _ (basis : Basis) (first : ℕ) (pairs : List (ℕ × ProfiledTerm)) wher
       (λ (n : ℕ). filter_map (λ (d : plain.Draft). Some (valued_draft (variable n x.sort) d)) (plain_drafts parts)) numbered
       ((binders at).of_value (variable_of x) b (plain_drafts parts) stands.below
       (subst (λ (ps : List (ℕ × Term)).
-      HasDrafts (setting_on basis) at.base (suc at.next) (with_values (binding ps) b) (plain_drafts parts))
+      HasDrafts (setting_on_basis basis) at.base (suc at.next) (with_values (binding ps) b) (plain_drafts parts))
       (ap bare_pairs is ∙ ap (λ (n : ℕ). (x.number, variable n x.sort) ∷ bare_pairs pairs) numbered)
       (h.drafts (record { base = at.base; next = suc at.next; scope = variable_of x ∷ at.scope }) (omega arith)
       (value_part basis at pairs first x b terms inner numbered stands is)))))
@@ -235,10 +229,10 @@ module _ (basis : Basis) (first : ℕ) (pairs : List (ℕ × ProfiledTerm)) wher
       → bare_pairs inner ≡ binder_pairs basis.canon process.parameters arguments (bare_pairs pairs)
       → ArePairsOf basis.data_.signature inner → AreTermsOf basis.data_.signature others
       → AreDraftsPlaced basis first process.body others inner body
-      → HasDrafts (setting_on basis) at.base at.next
+      → HasDrafts (setting_on_basis basis) at.base at.next
       (with_values (binding (binder_pairs basis.canon process.parameters arguments (bare_pairs pairs))) process.body) (plain_drafts body)
   body_has at number gates arguments process terms others inner body numbered stands found is of_signature k h =
-      subst (λ (ps : List (ℕ × Term)). HasDrafts (setting_on basis) at.base at.next (with_values (binding ps) process.body)
+      subst (λ (ps : List (ℕ × Term)). HasDrafts (setting_on_basis basis) at.base at.next (with_values (binding ps) process.body)
       (plain_drafts body)) is
       (h.drafts (record { base = at.base; next = at.next; scope = process.parameters }) numbered
       (call_part basis at pairs number gates arguments process terms others inner stands found is of_signature k))

@@ -19,7 +19,7 @@ use Rattle.behaviour_tree.specs.declared.states.Node.{Node}
 use Rattle.behaviour_tree.specs.declared.states.State.{State}
 use Rattle.draft_parts.specs.HandedOn.{plain_entry, Draft, Entry, Menu}
 use Rattle.draft_parts.specs.Lists.{plain_drafts}
-use Rattle.menu_builder.specs.Placed.{basis_of}
+use Rattle.menu_builder.specs.Placed.{menu_basis_of}
 use Rattle.menu_builder.specs.NodeNumbers.{above_node}
 use Rattle.menu_builder.specs.OpenMenus.{AreOpenDrafts, lowered_drafts}
 use Rattle.menu_builder.proofs.MenuNumberLemmas.{stands_below}
@@ -37,7 +37,7 @@ known_node data_ spec state node is of_spec closed =
 module _ (data_ : Data) (canon : Term → Term) (spec : Spec) (node : Node) where
   pub node_over : (least base : ℕ) → IsWellFormedSignature data_.signature → IsCanon data_ canon → IsSpecOver data_.signature spec
       → IsKnownNode data_.signature spec node → above_processes (specification_of spec).processes ≤ least
-      → least ≤ base → above_node node ≤ base → IsNodeOver (basis_of data_ canon spec) base node
+      → least ≤ base → above_node node ≤ base → IsNodeOver (menu_basis_of data_ canon spec) base node
   node_over least base signature is_canon over known low wide high = record {
     signature = signature;
     is_canon = is_canon;
@@ -49,8 +49,8 @@ module _ (data_ : Data) (canon : Term → Term) (spec : Spec) (node : Node) wher
   }
 
   -- the drafts of the node are open drafts of what it stands for
-  pub open_drafts : (base : ℕ) (drafts : List Draft) → IsNodeOver (basis_of data_ canon spec) base node
-      → IsGuarded (specification_of spec).processes → IsListedNode (basis_of data_ canon spec) base node drafts
+  pub open_drafts : (base : ℕ) (drafts : List Draft) → IsNodeOver (menu_basis_of data_ canon spec) base node
+      → IsGuarded (specification_of spec).processes → IsListedNode (menu_basis_of data_ canon spec) base node drafts
       → AreOpenDrafts data_ canon (specification_of spec) (stands_for node) base (plain_drafts drafts)
   open_drafts base drafts over guarded listed =
       let low : above (stands_for node) ≤ above_node node = stands_below node in

@@ -36,7 +36,7 @@ use Rattle.menu_builder.specs.NodeNumbers.{above_node}
 use Rattle.menu_builder.proofs.ClosedPartLemmas.{closed_parts}
 use Rattle.menu_builder.proofs.MenuNumberLemmas.{stands_below}
 use Rattle.draft_parts.specs.Made.{AreThese}
-use Rattle.menu_builder.specs.Placed.{Basis, StandsAt, IsPlaced, AreDraftsPlaced, setting_on}
+use Rattle.menu_builder.specs.Placed.{Basis, StandsAt, IsPlaced, AreDraftsPlaced, setting_on_basis}
 use Rattle.menu_builder.proofs.ReadyLemmas.{first_part, second_part}
 use Rattle.menu_builder.specs.Nodes.{IsNodeOver, IsListedNode}
 
@@ -88,21 +88,21 @@ module _ (basis : Basis) (base : ℕ) where
 
   -- a node that stands for a behaviour with the expected drafts
   as_made : (node : Node) (b : Behaviour) (expected : List plain.Draft) (made : List Draft) → stands_for node ≡ b
-      → These expected made → HasDrafts (setting_on basis) base 0 b expected → Listed node made
+      → These expected made → HasDrafts (setting_on_basis basis) base 0 b expected → Listed node made
   as_made node b expected made e t h = record {
-    drafts = subst (λ (c : Behaviour). HasDrafts (setting_on basis) base 0 c (plain_drafts made)) (sym e)
-        (subst (λ (ds : List plain.Draft). HasDrafts (setting_on basis) base 0 b ds) (sym t.same) h);
+    drafts = subst (λ (c : Behaviour). HasDrafts (setting_on_basis basis) base 0 c (plain_drafts made)) (sym e)
+        (subst (λ (ds : List plain.Draft). HasDrafts (setting_on_basis basis) base 0 b ds) (sym t.same) h);
     over = t.over;
   }
 
   -- the lists of a closed behaviour with higher leaves are raised
-  closed_raises : (node : Node) → Over node → Raises (setting_on basis) base 0 (stands_for node)
+  closed_raises : (node : Node) → Over node → Raises (setting_on_basis basis) base 0 (stands_for node)
   closed_raises node h =
       let low : above (stands_for node) ≤ above_node node = stands_below node in
       let whole : max (above_processes basis.specification.processes) (above_node node) ≤ base = h.apart in
       let apart : first_apart basis.specification.processes (stands_for node) ≤ base =
       (let both : max (above_processes basis.specification.processes) (above (stands_for node)) ≤ base = omega arith in both) in
-      subst (λ (b : Behaviour). Raises (setting_on basis) base 0 b) (unchanged (stands_for node))
+      subst (λ (b : Behaviour). Raises (setting_on_basis basis) base 0 b) (unchanged (stands_for node))
       (raises basis.data_ basis.canon basis.specification [] [] (stands_for node) h.is_canon h.well_formed h.closed base 0 apart
       (omega arith) tt)
 
@@ -145,17 +145,18 @@ module _ (basis : Basis) (base : ℕ) where
         same = ap plain_drafts empty;
         over = subst (λ (ds : List Draft). Every (HasTermsOf basis.data_.signature) ds) (sym empty) tt;
       })
-      (forms.of_stop (setting_on basis) base 0)
+      (forms.of_stop (setting_on_basis basis) base 0)
 
   pub parallel_listed : (node left right : Node) (meet : SynchronisationSet) (lefts rights made : List Draft)
       → stands_for node ≡ parallel meet (stands_for left) (stands_for right) → Over right → Listed left lefts → Listed right rights
       → These (beside_drafts basis.data_.signature meet base (plain_drafts lefts) (plain_drafts rights)) made → Listed node made
   parallel_listed node left right meet lefts rights made e over h k t =
       as_made node (parallel meet (stands_for left) (stands_for right)) _ made e t
-      (subst (λ (n : ℕ). HasDrafts (setting_on basis) base 0 (parallel meet (stands_for left) (stands_for right))
+      (subst (λ (n : ℕ). HasDrafts (setting_on_basis basis) base 0 (parallel meet (stands_for left) (stands_for right))
       (beside_drafts basis.data_.signature meet n (plain_drafts lefts) (plain_drafts rights)))
       (let same : base + 0 ≡ base = omega arith in same)
-      (forms.of_parallel (setting_on basis) base 0 meet (stands_for left) (stands_for right) (plain_drafts lefts) (plain_drafts rights)
+      (forms.of_parallel (setting_on_basis basis) base 0 meet (stands_for left) (stands_for right) (plain_drafts lefts)
+      (plain_drafts rights)
       h.drafts k.drafts (closed_raises right over)))
 
   pub disable_listed : (node left right : Node) (lefts rights made : List Draft)
@@ -163,7 +164,7 @@ module _ (basis : Basis) (base : ℕ) where
       → These (either_drafts (plain_drafts lefts) (plain_drafts rights)) made → Listed node made
   disable_listed node left right lefts rights made e h k t =
       as_made node (disable (stands_for left) (stands_for right)) _ made e t
-      (forms.of_disable (setting_on basis) base 0 (stands_for left) (stands_for right) (plain_drafts lefts) (plain_drafts rights)
+      (forms.of_disable (setting_on_basis basis) base 0 (stands_for left) (stands_for right) (plain_drafts lefts) (plain_drafts rights)
       h.drafts k.drafts)
 
   pub hide_listed : (node part : Node) (gates : List ℕ) (parts made : List Draft) → stands_for node ≡ hide gates (stands_for part)
@@ -171,21 +172,21 @@ module _ (basis : Basis) (base : ℕ) where
       → Listed node made
   hide_listed node part gates parts made e h t =
       as_made node (hide gates (stands_for part)) _ made e t
-      (forms.of_hide (setting_on basis) base 0 gates (stands_for part) (plain_drafts parts) h.drafts)
+      (forms.of_hide (setting_on_basis basis) base 0 gates (stands_for part) (plain_drafts parts) h.drafts)
 
   pub enable_listed : (node left : Node) (variables : List Variable) (c : Behaviour) (parts made : List Draft)
       → stands_for node ≡ enable (stands_for left) variables c → Listed left parts
       → These (filter_map (enable_draft basis.data_.signature (sorts_of variables)) (plain_drafts parts)) made → Listed node made
   enable_listed node left variables c parts made e h t =
       as_made node (enable (stands_for left) variables c) _ made e t
-      (forms.of_enable (setting_on basis) base 0 (stands_for left) variables c (plain_drafts parts) h.drafts)
+      (forms.of_enable (setting_on_basis basis) base 0 (stands_for left) variables c (plain_drafts parts) h.drafts)
 
   pub relabel_listed : (node part : Node) (pairs : Relabelling) (parts made : List Draft)
       → stands_for node ≡ relabel pairs (stands_for part) → Listed part parts
       → These (all_relabelled relabelled pairs (plain_drafts parts)) made → Listed node made
   relabel_listed node part pairs parts made e h t =
       as_made node (relabel pairs (stands_for part)) _ made e t
-      (forms.of_relabel (setting_on basis) base 0 pairs (stands_for part) (plain_drafts parts) h.drafts)
+      (forms.of_relabel (setting_on_basis basis) base 0 pairs (stands_for part) (plain_drafts parts) h.drafts)
 
   -- ---- A part of a behaviour, under its environment.
   pub part_stands : (b : Beh) (environment : List (ℕ × Sorted)) → IsWellFormedSignature basis.data_.signature
@@ -216,8 +217,8 @@ module _ (basis : Basis) (base : ℕ) where
       (profiles_in b) (profiled_pairs environment)
       → AreDraftsPlaced basis base (behaviour_of b) (profiles_in b) (profiled_pairs environment) made → Listed node made
   part_listed node b environment made e stands h = record {
-    drafts = subst (λ (c : Behaviour). HasDrafts (setting_on basis) base 0 c (plain_drafts made)) (sym e)
-        (subst (λ (ps : List (ℕ × Term)). HasDrafts (setting_on basis) base 0 (with_values (binding ps) (behaviour_of b))
+    drafts = subst (λ (c : Behaviour). HasDrafts (setting_on_basis basis) base 0 c (plain_drafts made)) (sym e)
+        (subst (λ (ps : List (ℕ × Term)). HasDrafts (setting_on_basis basis) base 0 (with_values (binding ps) (behaviour_of b))
         (plain_drafts made)) (pairs_bare environment)
         (h.drafts (record { base = base; next = 0; scope = variables_given (profiled_pairs environment) })
         (let same : base ≡ base + 0 = omega arith in same) stands));
@@ -241,8 +242,8 @@ module _ (basis : Basis) (base : ℕ) where
       → StandsAt basis (record { base = base; next = 0; scope = [] }) (call process gates (terms_of terms)) (profiles_of terms) []
       → AreDraftsPlaced basis base (call process gates (terms_of terms)) (profiles_of terms) [] made → Listed node made
   call_listed node process gates terms made e stands h = record {
-    drafts = subst (λ (c : Behaviour). HasDrafts (setting_on basis) base 0 c (plain_drafts made)) (sym e)
-        (subst (λ (c : Behaviour). HasDrafts (setting_on basis) base 0 c (plain_drafts made))
+    drafts = subst (λ (c : Behaviour). HasDrafts (setting_on_basis basis) base 0 c (plain_drafts made)) (sym e)
+        (subst (λ (c : Behaviour). HasDrafts (setting_on_basis basis) base 0 c (plain_drafts made))
         (unchanged (call process gates (terms_of terms)))
         (h.drafts (record { base = base; next = 0; scope = [] }) (let same : base ≡ base + 0 = omega arith in same) stands));
     over = h.over;

@@ -23,7 +23,7 @@ use Rattle.behaviour_tree.specs.declared.behaviours.ExitValue.TheVariants as exi
 use Rattle.behaviour_tree.proofs.StartLemmas.{told_sort}
 use Rattle.draft_parts.specs.EnvironmentRaises.{GivesScope}
 use Rattle.draft_parts.proofs.GivenLemmas.{with_leaf}
-use Rattle.draft_parts.specs.Environments.{ArePairsOf, IsReadyForPairs, Suits, SuitsTest, AreOffersReady, AreResultsReady}
+use Rattle.draft_parts.specs.Environments.{ArePairsOf, IsReadyForPairs, SuitsPairs, SuitsTest, AreOffersReady, AreResultsReady}
 use Rattle.draft_parts.specs.Offered.{asked_pairs}
 use Rattle.draft_parts.specs.OpenDrafts.{HasTests}
 use Rattle.menu_builder.specs.Bound.{AreBindingsReady, AreValuesReady}
@@ -66,7 +66,7 @@ module _ (signature : Signature) (base limit : ℕ) where
 -- ---- What is ready to get them.
 module _ (signature : Signature) (base limit : ℕ) (scope : List Variable) (pairs : List (ℕ × ProfiledTerm))
     (g : GivesScope signature base limit scope (bare_pairs pairs)) (values : ArePairsOf signature pairs) where
-  pub suits : (s : ℕ) (t : ProfiledTerm) → IsTermIn signature scope s (bare t) → Suits pairs t
+  pub suits : (s : ℕ) (t : ProfiledTerm) → IsTermIn signature scope s (bare t) → SuitsPairs pairs t
   suits s t h n r o = suited signature base limit scope pairs g values n r (h.bound n r o)
 
   pub ready : (s : ℕ) (t : ProfiledTerm) → IsTermIn signature scope s (bare t) → IsOf signature t → IsReadyForPairs signature pairs t

@@ -1,3 +1,5 @@
+pub mod SharedShapes
+pub mod Choices
 pub mod Nodes
 pub mod Menus
 pub mod Placed

@@ -15,7 +15,7 @@ use Rattle.draft_parts.specs.DraftTerms.{HasTermsOf}
 use Rattle.draft_parts.specs.Lists.{plain_drafts}
 use Rattle.draft_parts.specs.HasDrafts.{HasDrafts}
 use Rattle.menu_builder.specs.NodeNumbers.{above_node}
-use Rattle.menu_builder.specs.Placed.{Basis, setting_on}
+use Rattle.menu_builder.specs.Placed.{Basis, setting_on_basis}
 
 -- The node is a state of the specification: the closed behaviour that it stands for is well formed over it, its
 -- environments close what they stand beside, and its terms are of the signature.
@@ -37,5 +37,5 @@ pub record IsNodeOver (basis : Basis) (base : ℕ) (node : Node) : Type 0 where
 
 -- The drafts are those of the moves of the behaviour that the node stands for, whose first leaf is the variable `base`.
 pub record IsListedNode (basis : Basis) (base : ℕ) (node : Node) (made : List Draft) : Type 0 where
-  pub drafts : HasDrafts (setting_on basis) base 0 (stands_for node) (plain_drafts made)
+  pub drafts : HasDrafts (setting_on_basis basis) base 0 (stands_for node) (plain_drafts made)
   pub over : Every (HasTermsOf basis.data_.signature) made

@@ -4,15 +4,17 @@ ghost use Rattle.behaviour_semantics.specs.Behaviour.{Behaviour, call, choice, c
 ghost use Rattle.behaviour_tree.specs.BehaviourTerms.{let_profile, profiles_in, profiles_of, test_profiles};
 ghost use Rattle.behaviour_tree.specs.BehaviourView.{behaviour_of, let_of, meet_of, terms_of, test_of, variables_of};
 ghost use Rattle.behaviour_tree.specs.Over.{IsSpecOver};
+ghost use Rattle.menu_builder.specs.Choices.{IsGathering};
 ghost use Rattle.draft_parts.specs.HandedOn.{KeepsData};
-ghost use Rattle.menu_builder.specs.Placed.{AreDraftsPlaced, IsPlaced, basis_of};
+ghost use Rattle.menu_builder.specs.Placed.{AreDraftsPlaced, AreSidesGathered, IsPlaced, menu_basis_of};
 ghost use Rattle.process_checks.specs.Ranks.{AreRanksOf};
 ghost use Rattle.sort_terms.specs.EquationView.{variable_of};
 ghost use Rattle.sort_terms.specs.ProfiledTerm.{ProfiledTerm};
-ghost use Rattle.std.specs.Prelude.{◌++◌, IfOk, List, map};
+ghost use Rattle.std.specs.Prelude.{◌++◌, IfOk, List, OnOk, map};
 ghost use Rattle.term_match.specs.SubstView.{profiled_pairs};
 
 use crate::binders::{call_environment, let_environment, value_environment};
+use crate::choices::ChoiceDrafts;
 use crate::events::{action_moves, exit_moves, inner_moves};
 use crate::guards::guarded_drafts;
 use crate::levels::Levels;
@@ -40,11 +42,11 @@ pub fn behaviour_moves<D: Deciding>(
     requires over { IsSpecOver (D.known_data decider.old).signature spec.now }
     requires ranks { AreRanksOf spec.now ranks.now }
     requires placed { IsPlaced
-        (basis_of (D.known_data decider.old) (D.canon decider.old) spec.now) first
+        (menu_basis_of (D.known_data decider.old) (D.canon decider.old) spec.now) first
         (behaviour_of behaviour.now) (profiles_in behaviour.now)
         (profiled_pairs environment.now.items) }
     ensures listed { IfOk result (λ made. AreDraftsPlaced
-        (basis_of (D.known_data decider.old) (D.canon decider.old) spec.now) first
+        (menu_basis_of (D.known_data decider.old) (D.canon decider.old) spec.now) first
         (behaviour_of behaviour.now) (profiles_in behaviour.now)
         (profiled_pairs environment.now.items) made.items) }
     ensures same_known { KeepsData D.known_data D.canon decider.old decider.new }
@@ -198,11 +200,11 @@ fn guard_moves<D: Deciding>(
     requires over { IsSpecOver (D.known_data decider.old).signature spec.now }
     requires ranks { AreRanksOf spec.now ranks.now }
     requires placed { IsPlaced
-        (basis_of (D.known_data decider.old) (D.canon decider.old) spec.now) first
+        (menu_basis_of (D.known_data decider.old) (D.canon decider.old) spec.now) first
         (guard (test_of test.now) (behaviour_of part.now))
         (test_profiles test.now ++ profiles_in part.now) (profiled_pairs environment.now.items) }
     ensures listed { IfOk result (λ made. AreDraftsPlaced
-        (basis_of (D.known_data decider.old) (D.canon decider.old) spec.now) first
+        (menu_basis_of (D.known_data decider.old) (D.canon decider.old) spec.now) first
         (guard (test_of test.now) (behaviour_of part.now))
         (test_profiles test.now ++ profiles_in part.now) (profiled_pairs environment.now.items)
         made.items) }
@@ -229,20 +231,139 @@ fn choice_moves<D: Deciding>(
     requires over { IsSpecOver (D.known_data decider.old).signature spec.now }
     requires ranks { AreRanksOf spec.now ranks.now }
     requires placed { IsPlaced
-        (basis_of (D.known_data decider.old) (D.canon decider.old) spec.now) first
+        (menu_basis_of (D.known_data decider.old) (D.canon decider.old) spec.now) first
         (choice (behaviour_of left.now) (behaviour_of right.now))
         (profiles_in left.now ++ profiles_in right.now) (profiled_pairs environment.now.items) }
     ensures listed { IfOk result (λ made. AreDraftsPlaced
-        (basis_of (D.known_data decider.old) (D.canon decider.old) spec.now) first
+        (menu_basis_of (D.known_data decider.old) (D.canon decider.old) spec.now) first
         (choice (behaviour_of left.now) (behaviour_of right.now))
         (profiles_in left.now ++ profiles_in right.now) (profiled_pairs environment.now.items)
         made.items) }
     ensures same_known { KeepsData D.known_data D.canon decider.old decider.new }
 {
+    let mut gathered = ChoiceDrafts::new(*environment.allocator())?;
+    gather_choice(
+        spec,
+        ranks,
+        left,
+        right,
+        environment,
+        first,
+        levels,
+        decider,
+        &mut gathered,
+    )?;
+    Ok(gathered.into_drafts())
+}
+
+// Gathers the drafts of both sides of a choice.
+#[cycle(listing)]
+#[inline(never)]
+fn gather_choice<D: Deciding>(
+    spec: &Spec,
+    ranks: &Ranks,
+    left: &Beh,
+    right: &Beh,
+    environment: &Vec<(u64, Sorted)>,
+    first: u64,
+    levels: Levels,
+    decider: &mut D,
+    gathered: &mut ChoiceDrafts,
+) -> Result<(), NoMemory>
+    requires over { IsSpecOver (D.known_data decider.old).signature spec.now }
+    requires ranks { AreRanksOf spec.now ranks.now }
+    requires placed { IsPlaced
+        (menu_basis_of (D.known_data decider.old) (D.canon decider.old) spec.now) first
+        (choice (behaviour_of left.now) (behaviour_of right.now))
+        (profiles_in left.now ++ profiles_in right.now) (profiled_pairs environment.now.items) }
+    requires gathering { IsGathering gathered.old }
+    ensures gathers { OnOk result (AreSidesGathered
+        (menu_basis_of (D.known_data decider.old) (D.canon decider.old) spec.now) first
+        (choice (behaviour_of left.now) (behaviour_of right.now))
+        (profiles_in left.now ++ profiles_in right.now) (profiled_pairs environment.now.items)
+        gathered.old gathered.new) }
+    ensures same_known { KeepsData D.known_data D.canon decider.old decider.new }
+{
     let below = levels.below()?;
-    let lefts = behaviour_moves(spec, ranks, left, environment, first, below, decider)?;
-    let rights = behaviour_moves(spec, ranks, right, environment, first, below, decider)?;
-    either(lefts, rights)
+    gathered.enter(Variant::Left)?;
+    gather(
+        spec,
+        ranks,
+        left,
+        environment,
+        first,
+        below,
+        decider,
+        gathered,
+    )?;
+    gathered.leave();
+    gathered.enter(Variant::Right)?;
+    gather(
+        spec,
+        ranks,
+        right,
+        environment,
+        first,
+        below,
+        decider,
+        gathered,
+    )?;
+    gathered.leave();
+    Ok(())
+}
+
+// Gathers the drafts of a side of a choice. Where it is a choice too, its sides are gathered one by
+// one.
+#[cycle(listing)]
+#[inline(never)]
+fn gather<D: Deciding>(
+    spec: &Spec,
+    ranks: &Ranks,
+    behaviour: &Beh,
+    environment: &Vec<(u64, Sorted)>,
+    first: u64,
+    levels: Levels,
+    decider: &mut D,
+    gathered: &mut ChoiceDrafts,
+) -> Result<(), NoMemory>
+    requires over { IsSpecOver (D.known_data decider.old).signature spec.now }
+    requires ranks { AreRanksOf spec.now ranks.now }
+    requires placed { IsPlaced
+        (menu_basis_of (D.known_data decider.old) (D.canon decider.old) spec.now) first
+        (behaviour_of behaviour.now) (profiles_in behaviour.now)
+        (profiled_pairs environment.now.items) }
+    requires gathering { IsGathering gathered.old }
+    ensures gathers { OnOk result (AreSidesGathered
+        (menu_basis_of (D.known_data decider.old) (D.canon decider.old) spec.now) first
+        (behaviour_of behaviour.now) (profiles_in behaviour.now)
+        (profiled_pairs environment.now.items) gathered.old gathered.new) }
+    ensures same_known { KeepsData D.known_data D.canon decider.old decider.new }
+{
+    match behaviour {
+        Beh::Choice(_, left, right) => gather_choice(
+            spec,
+            ranks,
+            left,
+            right,
+            environment,
+            first,
+            levels,
+            decider,
+            gathered,
+        ),
+        _ => {
+            let drafts = behaviour_moves(
+                spec,
+                ranks,
+                behaviour,
+                environment,
+                first,
+                levels,
+                decider,
+            )?;
+            gathered.add(drafts)
+        }
+    }
 }
 
 // Of a parallel.
@@ -262,11 +383,11 @@ fn parallel_moves<D: Deciding>(
     requires over { IsSpecOver (D.known_data decider.old).signature spec.now }
     requires ranks { AreRanksOf spec.now ranks.now }
     requires placed { IsPlaced
-        (basis_of (D.known_data decider.old) (D.canon decider.old) spec.now) first
+        (menu_basis_of (D.known_data decider.old) (D.canon decider.old) spec.now) first
         (parallel (meet_of meet.now) (behaviour_of left.now) (behaviour_of right.now))
         (profiles_in left.now ++ profiles_in right.now) (profiled_pairs environment.now.items) }
     ensures listed { IfOk result (λ made. AreDraftsPlaced
-        (basis_of (D.known_data decider.old) (D.canon decider.old) spec.now) first
+        (menu_basis_of (D.known_data decider.old) (D.canon decider.old) spec.now) first
         (parallel (meet_of meet.now) (behaviour_of left.now) (behaviour_of right.now))
         (profiles_in left.now ++ profiles_in right.now) (profiled_pairs environment.now.items)
         made.items) }
@@ -294,11 +415,11 @@ fn hide_moves<D: Deciding>(
     requires over { IsSpecOver (D.known_data decider.old).signature spec.now }
     requires ranks { AreRanksOf spec.now ranks.now }
     requires placed { IsPlaced
-        (basis_of (D.known_data decider.old) (D.canon decider.old) spec.now) first
+        (menu_basis_of (D.known_data decider.old) (D.canon decider.old) spec.now) first
         (hide gates.now.items (behaviour_of part.now))
         (profiles_in part.now) (profiled_pairs environment.now.items) }
     ensures listed { IfOk result (λ made. AreDraftsPlaced
-        (basis_of (D.known_data decider.old) (D.canon decider.old) spec.now) first
+        (menu_basis_of (D.known_data decider.old) (D.canon decider.old) spec.now) first
         (hide gates.now.items (behaviour_of part.now))
         (profiles_in part.now) (profiled_pairs environment.now.items) made.items) }
     ensures same_known { KeepsData D.known_data D.canon decider.old decider.new }
@@ -324,10 +445,11 @@ fn enable_moves<D: Deciding>(
     requires over { IsSpecOver (D.known_data decider.old).signature spec.now }
     requires ranks { AreRanksOf spec.now ranks.now }
     requires placed { IsPlaced
-        (basis_of (D.known_data decider.old) (D.canon decider.old) spec.now) first
+        (menu_basis_of (D.known_data decider.old) (D.canon decider.old) spec.now) first
         (behaviour_of left.now) (profiles_in left.now) (profiled_pairs environment.now.items) }
     ensures listed { IfOk result (λ made. (right : Behaviour) → (terms : List ProfiledTerm)
-        → AreDraftsPlaced (basis_of (D.known_data decider.old) (D.canon decider.old) spec.now) first
+        → AreDraftsPlaced (menu_basis_of (D.known_data decider.old) (D.canon decider.old) spec.now)
+        first
         (enable (behaviour_of left.now) (variables_of variables.now.items) right)
         (profiles_in left.now ++ terms) (profiled_pairs environment.now.items) made.items) }
     ensures same_known { KeepsData D.known_data D.canon decider.old decider.new }
@@ -353,11 +475,11 @@ fn disable_moves<D: Deciding>(
     requires over { IsSpecOver (D.known_data decider.old).signature spec.now }
     requires ranks { AreRanksOf spec.now ranks.now }
     requires placed { IsPlaced
-        (basis_of (D.known_data decider.old) (D.canon decider.old) spec.now) first
+        (menu_basis_of (D.known_data decider.old) (D.canon decider.old) spec.now) first
         (disable (behaviour_of left.now) (behaviour_of right.now))
         (profiles_in left.now ++ profiles_in right.now) (profiled_pairs environment.now.items) }
     ensures listed { IfOk result (λ made. AreDraftsPlaced
-        (basis_of (D.known_data decider.old) (D.canon decider.old) spec.now) first
+        (menu_basis_of (D.known_data decider.old) (D.canon decider.old) spec.now) first
         (disable (behaviour_of left.now) (behaviour_of right.now))
         (profiles_in left.now ++ profiles_in right.now) (profiled_pairs environment.now.items)
         made.items) }
@@ -385,12 +507,12 @@ fn let_moves<D: Deciding>(
     requires over { IsSpecOver (D.known_data decider.old).signature spec.now }
     requires ranks { AreRanksOf spec.now ranks.now }
     requires placed { IsPlaced
-        (basis_of (D.known_data decider.old) (D.canon decider.old) spec.now) first
+        (menu_basis_of (D.known_data decider.old) (D.canon decider.old) spec.now) first
         (let_be (map let_of bindings.now.items) (behaviour_of part.now))
         (map let_profile bindings.now.items ++ profiles_in part.now)
         (profiled_pairs environment.now.items) }
     ensures listed { IfOk result (λ made. AreDraftsPlaced
-        (basis_of (D.known_data decider.old) (D.canon decider.old) spec.now) first
+        (menu_basis_of (D.known_data decider.old) (D.canon decider.old) spec.now) first
         (let_be (map let_of bindings.now.items) (behaviour_of part.now))
         (map let_profile bindings.now.items ++ profiles_in part.now)
         (profiled_pairs environment.now.items) made.items) }
@@ -418,11 +540,11 @@ fn value_moves<D: Deciding>(
     requires over { IsSpecOver (D.known_data decider.old).signature spec.now }
     requires ranks { AreRanksOf spec.now ranks.now }
     requires placed { IsPlaced
-        (basis_of (D.known_data decider.old) (D.canon decider.old) spec.now) first
+        (menu_basis_of (D.known_data decider.old) (D.canon decider.old) spec.now) first
         (choose_value (variable_of variable.now) (behaviour_of part.now))
         (profiles_in part.now) (profiled_pairs environment.now.items) }
     ensures listed { IfOk result (λ made. AreDraftsPlaced
-        (basis_of (D.known_data decider.old) (D.canon decider.old) spec.now) first
+        (menu_basis_of (D.known_data decider.old) (D.canon decider.old) spec.now) first
         (choose_value (variable_of variable.now) (behaviour_of part.now))
         (profiles_in part.now) (profiled_pairs environment.now.items) made.items) }
     ensures same_known { KeepsData D.known_data D.canon decider.old decider.new }
@@ -452,11 +574,11 @@ fn gate_moves<D: Deciding>(
     requires over { IsSpecOver (D.known_data decider.old).signature spec.now }
     requires ranks { AreRanksOf spec.now ranks.now }
     requires placed { IsPlaced
-        (basis_of (D.known_data decider.old) (D.canon decider.old) spec.now) first
+        (menu_basis_of (D.known_data decider.old) (D.canon decider.old) spec.now) first
         (choose_gate gate gates.now.items (behaviour_of part.now))
         (profiles_in part.now) (profiled_pairs environment.now.items) }
     ensures listed { IfOk result (λ made. AreDraftsPlaced
-        (basis_of (D.known_data decider.old) (D.canon decider.old) spec.now) first
+        (menu_basis_of (D.known_data decider.old) (D.canon decider.old) spec.now) first
         (choose_gate gate gates.now.items (behaviour_of part.now))
         (profiles_in part.now) (profiled_pairs environment.now.items) made.items) }
     ensures same_known { KeepsData D.known_data D.canon decider.old decider.new }
@@ -483,11 +605,11 @@ pub fn call_moves<D: Deciding>(
     requires over { IsSpecOver (D.known_data decider.old).signature spec.now }
     requires ranks { AreRanksOf spec.now ranks.now }
     requires placed { IsPlaced
-        (basis_of (D.known_data decider.old) (D.canon decider.old) spec.now) first
+        (menu_basis_of (D.known_data decider.old) (D.canon decider.old) spec.now) first
         (call process gates.now.items (terms_of values.now.items)) (profiles_of values.now.items)
         (profiled_pairs environment.now.items) }
     ensures listed { IfOk result (λ made. AreDraftsPlaced
-        (basis_of (D.known_data decider.old) (D.canon decider.old) spec.now) first
+        (menu_basis_of (D.known_data decider.old) (D.canon decider.old) spec.now) first
         (call process gates.now.items (terms_of values.now.items)) (profiles_of values.now.items)
         (profiled_pairs environment.now.items) made.items) }
     ensures same_known { KeepsData D.known_data D.canon decider.old decider.new }
@@ -523,11 +645,11 @@ fn par_moves<D: Deciding>(
     requires over { IsSpecOver (D.known_data decider.old).signature spec.now }
     requires ranks { AreRanksOf spec.now ranks.now }
     requires placed { IsPlaced
-        (basis_of (D.known_data decider.old) (D.canon decider.old) spec.now) first
+        (menu_basis_of (D.known_data decider.old) (D.canon decider.old) spec.now) first
         (par_gate gate gates.now.items (meet_of meet.now) (behaviour_of part.now))
         (profiles_in part.now) (profiled_pairs environment.now.items) }
     ensures listed { IfOk result (λ made. AreDraftsPlaced
-        (basis_of (D.known_data decider.old) (D.canon decider.old) spec.now) first
+        (menu_basis_of (D.known_data decider.old) (D.canon decider.old) spec.now) first
         (par_gate gate gates.now.items (meet_of meet.now) (behaviour_of part.now))
         (profiles_in part.now) (profiled_pairs environment.now.items) made.items) }
     ensures same_known { KeepsData D.known_data D.canon decider.old decider.new }

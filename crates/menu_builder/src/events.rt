@@ -2,7 +2,7 @@
 
 ghost use Rattle.draft_parts.specs.Environments.{AreOffersReady, ArePairsOf, AreResultsReady, SuitsTest};
 ghost use Rattle.draft_parts.specs.HandedOn.{KeepsData};
-ghost use Rattle.draft_parts.specs.Made.{AreThese, inner_of};
+ghost use Rattle.draft_parts.specs.Made.{AreThese, draft_of_inner};
 ghost use Rattle.draft_parts.specs.Offered.{asked_pairs};
 ghost use Rattle.draft_parts.specs.OpenDrafts.{HasTests, acted, ended_with};
 ghost use Rattle.lotos_base.specs.Signature.{Signature};
@@ -65,7 +65,7 @@ pub fn action_moves<D: Deciding>(
 #[inline(never)]
 pub fn inner_moves(alloc: Global) -> Result<Vec<Draft>, NoMemory>
     ensures { IfOk result (λ made. (signature : Signature)
-        → AreThese signature (inner_of ∷ []) made.items) }
+        → AreThese signature (draft_of_inner ∷ []) made.items) }
 {
     one(alloc, inner_draft(alloc))
 }

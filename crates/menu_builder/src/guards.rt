@@ -1,6 +1,6 @@
 //! The drafts below a guard.
 
-ghost use Rattle.draft_parts.specs.Environments.{IsReadyForPairs, Suits};
+ghost use Rattle.draft_parts.specs.Environments.{IsReadyForPairs, SuitsPairs};
 ghost use Rattle.behaviour_semantics.specs.Replacement.{test_with};
 ghost use Rattle.behaviour_semantics.specs.WellFormed.{Every};
 ghost use Rattle.behaviour_tree.specs.BehaviourView.{test_of};
@@ -27,8 +27,9 @@ pub fn guarded_drafts(
     environment: &Vec<(u64, Sorted)>,
     parts: Vec<Draft>,
 ) -> Result<Vec<Draft>, NoMemory>
-    requires left { Suits (profiled_pairs environment.now.items) (profiled_in test.now.left) }
-    requires right { Suits (profiled_pairs environment.now.items) (profiled_in test.now.right) }
+    requires left { SuitsPairs (profiled_pairs environment.now.items) (profiled_in test.now.left) }
+    requires right { SuitsPairs (profiled_pairs environment.now.items)
+        (profiled_in test.now.right) }
     ensures { IfOk result (λ made. (signature : Signature)
         → IsReadyForPairs signature (profiled_pairs environment.now.items)
         (profiled_in test.now.left)

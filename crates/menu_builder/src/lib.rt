@@ -4,6 +4,7 @@
 
 pub mod behaviours;
 pub mod binders;
+pub mod choices;
 pub mod events;
 pub mod guards;
 pub mod laws;
@@ -12,6 +13,7 @@ pub mod makers;
 pub mod menus;
 pub mod nodes;
 pub mod numbers;
+pub mod shared_shapes;
 
 pub use behaviours::{behaviour_moves, call_moves};
 pub use draft_parts::meeting::have_sorts;

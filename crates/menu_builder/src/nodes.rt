@@ -3,7 +3,7 @@
 ghost use Rattle.behaviour_tree.specs.Over.{IsSpecOver};
 ghost use Rattle.draft_parts.specs.HandedOn.{KeepsData};
 ghost use Rattle.menu_builder.specs.Nodes.{IsListedNode, IsNodeOver};
-ghost use Rattle.menu_builder.specs.Placed.{basis_of};
+ghost use Rattle.menu_builder.specs.Placed.{menu_basis_of};
 ghost use Rattle.process_checks.specs.Ranks.{AreRanksOf};
 ghost use Rattle.std.specs.Prelude.{IfOk};
 
@@ -30,9 +30,9 @@ pub fn node_moves<D: Deciding>(
     requires over { IsSpecOver (D.known_data decider.old).signature spec.now }
     requires ranks { AreRanksOf spec.now ranks.now }
     requires node { IsNodeOver
-        (basis_of (D.known_data decider.old) (D.canon decider.old) spec.now) first node.now }
+        (menu_basis_of (D.known_data decider.old) (D.canon decider.old) spec.now) first node.now }
     ensures listed { IfOk result (λ made. IsListedNode
-        (basis_of (D.known_data decider.old) (D.canon decider.old) spec.now) first node.now
+        (menu_basis_of (D.known_data decider.old) (D.canon decider.old) spec.now) first node.now
         made.items) }
     ensures same_known { KeepsData D.known_data D.canon decider.old decider.new }
 {

@@ -23,18 +23,18 @@ use Rattle.behaviour_semantics.specs.Derives.{leaves_in}
 use Rattle.behaviour_semantics.specs.Shape.{let_bound}
 use Rattle.behaviour_semantics.proofs.ClosedTargets.{opened_closed}
 use Rattle.step_taker.proofs.BodyLemmas.{keeps_ground}
-use Rattle.menu_parts.specs.PartRule.{all_by_rule, passing_on}
-use Rattle.menu_parts.specs.PartMenus.{hide_menu, relabel_menu, call_menu, enable_menu, called_body, let_body}
-use Rattle.menu_parts.specs.PartMenuLaws.{MakeTheMenu}
-use Rattle.menu_parts.proofs.PartMenuLemmas.{make_the_menu}
-use Rattle.behaviour_semantics.specs.Label.{gate_under}
-use Rattle.menu_builder.specs.HandedOn.{call_pairs}
+use Rattle.shared_entries.specs.PartRule.{all_by_rule, passing_on}
+use Rattle.shared_entries.specs.PartMenus.{hide_menu, relabel_menu, call_menu, enable_menu, called_body, let_body}
+use Rattle.shared_entries.specs.PartMenuLaws.{MakeTheMenu}
+use Rattle.shared_entries.proofs.PartMenuLemmas.{make_the_menu}
+use Rattle.shared_entries.specs.HandedOn.{call_pairs}
+use Rattle.shared_entries.proofs.HandedOn.{unchanged_gates}
 use Rattle.step_taker.specs.HandedOn.{HasClosedParts}
 use Rattle.step_taker.specs.Sides.{IsSideState, side_of, side_profiles}
 use Rattle.step_taker.specs.Taken.{Ground}
 use Rattle.step_taker.specs.Walked.{IsClosedOn, IsPassable, IsPassableNode}
 use Rattle.step_taker.specs.declared.sides.Side.{Side}
-use Rattle.menu_parts.specs.Forms.{IsBase, IsExactOn, IsMadeBeside, IsMadeOfEither}
+use Rattle.menu_parts.specs.Forms.{IsLawfulGround, IsExactOn, IsMadeBeside, IsMadeOfEither}
 use Rattle.menu_parts.proofs.OverLemmas.{over_of}
 
 -- A node that stands for a closed behaviour, with closed parts and terms of the signature.
@@ -63,7 +63,7 @@ pub exact_as : (basis : Ground) (b : Behaviour) (made : Node) (entries : List En
     → IsExactOn basis (stands_for made) entries → IsExactOn basis b entries
 exact_as basis b made entries e h = subst (λ (x : Behaviour). IsExactOn basis x entries) e h
 
-module _ (basis : Ground) (base : IsBase basis) where
+module _ (basis : Ground) (base : IsLawfulGround basis) where
   abbrev pub makes : MakeTheMenu basis.data_ basis.canon (specification_of basis.spec)
   makes = make_the_menu basis.data_ basis.canon (specification_of basis.spec)
 
@@ -135,13 +135,10 @@ module _ (basis : Ground) (base : IsBase basis) where
       (leaves_in []) (par_gate g gates meet b) closed
 
 -- ---- The relabelling of a call is that of the formal gates by the actual ones.
-gates_stay : (gates : List ℕ) → map (gate_under []) gates ≡ gates
-gates_stay [] = refl
-gates_stay (g ∷ gates) = ap (λ (gs : List ℕ). g ∷ gs) (gates_stay gates)
 
 pub call_pairs_stay : (formals actuals : List ℕ) (pairs : Relabelling) → pairs ≡ [] → call_pairs formals actuals pairs ≡ zip formals actuals
 call_pairs_stay formals actuals pairs e =
-    ap (call_pairs formals actuals) e ∙ ap (λ (gs : List ℕ). zip formals gs) (gates_stay actuals)
+    ap (call_pairs formals actuals) e ∙ ap (λ (gs : List ℕ). zip formals gs) (unchanged_gates actuals)
 
 -- ---- A node that is a behaviour without values to put in.
 module _ (environment : List (ℕ × Sorted)) (behaviour given : Beh) (node : Node) (nothing : environment ≡ []) (is : given ≡ behaviour)

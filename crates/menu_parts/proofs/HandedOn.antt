@@ -1,4 +1,3 @@
 -- What crates above this one need of the crates below it.
-pub use Rattle.menu_builder.proofs.HandedOn.{ordered_entry}
-pub use Rattle.event_offers.proofs.KeepingLemmas.{held_before, holds_after}
+pub use Rattle.shared_entries.proofs.HandedOn.{ordered_entry, held_before, holds_after}
 pub use Rattle.step_taker.proofs.HandedOn.{more_of}

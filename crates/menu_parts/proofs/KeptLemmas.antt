@@ -8,18 +8,17 @@ use Rattle.behaviour_semantics.specs.WellFormed.{Every}
 use Rattle.behaviour_tree.specs.StateView.{stands_for}
 use Rattle.behaviour_tree.specs.declared.states.Node.{Node}
 use Rattle.lotos_base.specs.Signature.{Signature}
-use Rattle.event_offers.specs.Offers.{IsEntryOver}
-use Rattle.event_offers.specs.declared.drafts.Entry.{Entry}
-use Rattle.menu_parts.specs.PartMenus.{parallel_menu, sides_menu}
-use Rattle.menu_parts.specs.Items.{AreTerms, HasEntryTerms, HasItemTerms, IsItemOver, Terms, entry_terms, item_terms, plain_item}
-use Rattle.menu_parts.specs.Joined.{AreBeside}
-use Rattle.menu_parts.specs.Rules.{AreMadeBy, made_by}
-use Rattle.menu_parts.specs.declared.items.Item.{Item}
-use Rattle.menu_parts.specs.declared.rules.PartRule.{PartRule}
+use Rattle.shared_entries.specs.HandedOn.{IsEntryOver, Entry}
+use Rattle.shared_entries.specs.PartMenus.{parallel_menu, sides_menu}
+use Rattle.shared_entries.specs.Items.{AreItemTerms, HasEntryTerms, HasItemTerms, IsItemOver, ItemTerms, entry_terms, item_terms, plain_item}
+use Rattle.shared_entries.specs.Joined.{AreBeside}
+use Rattle.shared_entries.specs.Rules.{AreEntriesMadeBy, entry_made_by}
+use Rattle.shared_entries.specs.declared.items.Item.{Item}
+use Rattle.shared_entries.specs.declared.rules.PartRule.{PartRule}
 use Rattle.step_taker.specs.Taken.{Ground}
 use Rattle.step_taker.specs.Walked.{IsPassableNode}
-use Rattle.menu_parts.specs.Forms.{IsBase, IsExactOn, IsMadeBeside, IsMadeOf, IsMadeOfEither}
-use Rattle.menu_parts.specs.KeptMenus.{IsKept, IsKeptFor, IsListed}
+use Rattle.menu_parts.specs.Forms.{IsLawfulGround, IsExactOn, IsMadeBeside, IsMadeOf, IsMadeOfEither}
+use Rattle.menu_parts.specs.KeptMenus.{IsKept, IsKeptFor, IsListedMenu}
 use Rattle.menu_parts.specs.Spread.{listed_for}
 use Rattle.menu_parts.specs.declared.kept.Kept.{Kept, Whole, One, Two}
 use Rattle.menu_parts.specs.declared.kept.Kept as kept
@@ -28,7 +27,7 @@ use Rattle.menu_parts.proofs.OverLemmas.{items_over}
 
 module _ (basis : Ground) where
   -- the menu at the root is exact
-  pub root_listed : (k : Kept) → IsKept basis k → IsListed basis (listed_for k)
+  pub root_listed : (k : Kept) → IsKept basis k → IsListedMenu basis (listed_for k)
   root_listed (Whole listed) h = h
   root_listed (kept.One' listed _ part) h = h.0
   root_listed (kept.Two' listed _ left _ right) h = h.0
@@ -47,7 +46,7 @@ module _ (basis : Ground) where
   module _ (node : Node) (listed : Listed) (is : listed.node.value ≡ node)
       (exact : IsExactOn basis (stands_for node) (map plain_item listed.items.items))
       (terms : Every (HasItemTerms basis.data_.signature) listed.items.items) where
-    is_listed : IsListed basis listed
+    is_listed : IsListedMenu basis listed
     is_listed = record {
       exact = subst (λ (n : Node). IsExactOn basis (stands_for n) (map plain_item listed.items.items)) (sym is) exact;
       terms = terms;
@@ -71,7 +70,7 @@ module _ (basis : Ground) where
 
   pub rule_exact : (rule : PartRule) (part : Node) (whole : Behaviour) (below : Kept) (items : List Item)
       → IsMadeOf basis rule (stands_for part) whole → IsKeptFor basis part below
-      → AreMadeBy basis.data_.signature (made_by basis.data_.signature rule) (listed_for below).items.items items
+      → AreEntriesMadeBy basis.data_.signature (entry_made_by basis.data_.signature rule) (listed_for below).items.items items
       → IsExactOn basis whole (map plain_item items)
   rule_exact rule part whole below items form h made =
       subst (IsExactOn basis whole) (sym made.same) (form (map plain_item (listed_for below).items.items) (exact_for part below h))
@@ -92,7 +91,7 @@ module _ (basis : Ground) where
       (form _ _ made.boths (exact_for left first h) (exact_for right second k) made.solved)
 
   -- the items of what is kept for a state are in order
-  pub kept_over : (base : IsBase basis) (node : Node) (k : Kept) → IsPassableNode basis node → IsKeptFor basis node k
+  pub kept_over : (base : IsLawfulGround basis) (node : Node) (k : Kept) → IsPassableNode basis node → IsKeptFor basis node k
       → Every (IsItemOver basis.data_.signature) (listed_for k).items.items
   kept_over base node k passable h =
       items_over basis (stands_for node) base passable.passable.closed (listed_for k).items.items (exact_for node k h)
@@ -100,32 +99,32 @@ module _ (basis : Ground) where
 
 -- ---- The terms of items are those of the entries that were taken.
 terms_entered : (signature : Signature) (entries : List Entry) → Every (IsEntryOver signature) entries
-    → Every (AreTerms signature) (map entry_terms entries)
+    → Every (AreItemTerms signature) (map entry_terms entries)
 terms_entered signature [] h = tt
 terms_entered signature (e ∷ entries) h = (
   record { values = h.0.entry_of.values; leaves = h.0.entry_of.leaves; conditions = h.0.entry_of.conditions },
   terms_entered signature entries h.1,
 )
 
-terms_of_all : {X : Type 0} (f : X → Terms) (signature : Signature) (xs : List X) → Every (AreTerms signature) (map f xs)
-    → Every (λ x. AreTerms signature (f x)) xs
+terms_of_all : {X : Type 0} (f : X → ItemTerms) (signature : Signature) (xs : List X) → Every (AreItemTerms signature) (map f xs)
+    → Every (λ x. AreItemTerms signature (f x)) xs
 terms_of_all f signature [] h = tt
 terms_of_all f signature (x ∷ xs) h = (h.0, terms_of_all f signature xs h.1)
 
 pub taken_terms : (signature : Signature) (entries : List Entry) (items : List Item) → map item_terms items ≡ map entry_terms entries
     → Every (IsEntryOver signature) entries → Every (HasItemTerms signature) items
 taken_terms signature entries items e h =
-    terms_of_all item_terms signature items (subst (Every (AreTerms signature)) (sym e) (terms_entered signature entries h))
+    terms_of_all item_terms signature items (subst (Every (AreItemTerms signature)) (sym e) (terms_entered signature entries h))
 
 item_terms_all : (signature : Signature) (items : List Item) → Every (HasItemTerms signature) items
-    → Every (AreTerms signature) (map item_terms items)
+    → Every (AreItemTerms signature) (map item_terms items)
 item_terms_all signature [] h = tt
 item_terms_all signature (item ∷ items) h = (h.0, item_terms_all signature items h.1)
 
 pub given_terms : (signature : Signature) (items : List Item) (entries : List Entry) → map entry_terms entries ≡ map item_terms items
     → Every (HasItemTerms signature) items → Every (HasEntryTerms signature) entries
 given_terms signature items entries e h =
-    terms_of_all entry_terms signature entries (subst (Every (AreTerms signature)) (sym e) (item_terms_all signature items h))
+    terms_of_all entry_terms signature entries (subst (Every (AreItemTerms signature)) (sym e) (item_terms_all signature items h))
 
 -- ---- What is made of the items that are kept.
 module _ (basis : Ground) where
@@ -137,10 +136,10 @@ module _ (basis : Ground) where
   pub rule_made : (rule : PartRule) (node : Node) (k : Kept) (given : Vec Item Global) (made : List Item) → given ≡ (listed_for k).items
       → IsKeptFor basis node k
       → ((signature : Signature) → Every (HasItemTerms signature) given.items
-      → AreMadeBy signature (made_by signature rule) given.items made)
-      → AreMadeBy basis.data_.signature (made_by basis.data_.signature rule) (listed_for k).items.items made
+      → AreEntriesMadeBy signature (entry_made_by signature rule) given.items made)
+      → AreEntriesMadeBy basis.data_.signature (entry_made_by basis.data_.signature rule) (listed_for k).items.items made
   rule_made rule node k given made e h all =
-      subst (λ (v : Vec Item Global). AreMadeBy basis.data_.signature (made_by basis.data_.signature rule) v.items made) e
+      subst (λ (v : Vec Item Global). AreEntriesMadeBy basis.data_.signature (entry_made_by basis.data_.signature rule) v.items made) e
       (all basis.data_.signature (kept_terms node k given e h))
 
   module _ (left right : Node) (first second : Kept) (lefts rights : Vec Item Global) (made : List Item)
@@ -164,7 +163,7 @@ module _ (basis : Ground) where
         subst (λ (v : Vec Item Global). AreBeside basis.data_ basis.canon meet (listed_for first).items.items v.items made) f
         (subst (λ (v : Vec Item Global). AreBeside basis.data_ basis.canon meet v.items rights.items made) e all)
 
-  pub given_over : (base : IsBase basis) (node : Node) (k : Kept) (given : Vec Item Global) → given ≡ (listed_for k).items
+  pub given_over : (base : IsLawfulGround basis) (node : Node) (k : Kept) (given : Vec Item Global) → given ≡ (listed_for k).items
       → IsPassableNode basis node → IsKeptFor basis node k → Every (IsItemOver basis.data_.signature) given.items
   given_over base node k given e passable h =
       subst (λ (v : Vec Item Global). Every (IsItemOver basis.data_.signature) v.items) (sym e) (kept_over basis base node k passable h)

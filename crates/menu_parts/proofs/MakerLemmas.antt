@@ -17,13 +17,11 @@ use Rattle.behaviour_tree.specs.StateView.{node_profiles, stands_for, state_of}
 use Rattle.behaviour_tree.specs.declared.definitions.Spec.{Spec}
 use Rattle.behaviour_tree.specs.declared.states.Node.{Node}
 use Rattle.behaviour_tree.specs.declared.states.State.{State}
-use Rattle.event_offers.specs.Offers.{IsEntryOver}
-use Rattle.event_offers.specs.declared.menus.Menu.{Menu}
-use Rattle.menu_builder.specs.Menus.{entries_in}
-use Rattle.menu_parts.specs.Items.{HasEntryTerms, HasItemTerms, plain_item}
+use Rattle.shared_entries.specs.HandedOn.{IsEntryOver, Menu, entries_in}
+use Rattle.shared_entries.specs.Items.{HasEntryTerms, HasItemTerms, plain_item}
 use Rattle.step_taker.specs.Taken.{Ground, ground_of}
 use Rattle.step_taker.specs.Walked.{IsClosedOn, IsPassableNode}
-use Rattle.menu_parts.specs.Forms.{IsBase, IsExactOn}
+use Rattle.menu_parts.specs.Forms.{IsLawfulGround, IsExactOn}
 use Rattle.menu_parts.specs.KeptMenus.{IsKept, IsKeptFor}
 use Rattle.menu_parts.specs.Spread.{listed_for}
 use Rattle.menu_parts.specs.declared.kept.Kept.{Kept}
@@ -58,7 +56,7 @@ module _ (basis : Ground) (node : Node) (kept : Kept) (h : IsKeptFor basis node 
       subst (IsExactOn basis b) (sym same)
       (subst (λ (x : Behaviour). IsExactOn basis x (map plain_item (listed_for kept).items.items)) e (exact_for basis node kept h))
 
-  pub menu_over : IsBase basis → IsPassableNode basis node
+  pub menu_over : IsLawfulGround basis → IsPassableNode basis node
       → (Every (HasItemTerms basis.data_.signature) (listed_for kept).items.items
       → Every (HasEntryTerms basis.data_.signature) menu.entries.items)
       → Every (IsEntryOver basis.data_.signature) menu.entries.items

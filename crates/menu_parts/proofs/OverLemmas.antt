@@ -7,18 +7,16 @@ use Rattle.behaviour_semantics.specs.Listing.{IsAmong}
 use Rattle.behaviour_semantics.specs.Solving as solving
 use Rattle.behaviour_semantics.specs.WellFormed.{AreOver, Every}
 use Rattle.behaviour_tree.specs.DefinitionView.{specification_of}
-use Rattle.event_offers.specs.OfferView.{plain_entry}
-use Rattle.event_offers.specs.Offers.{IsEntryOver, IsOrderedEntry}
-use Rattle.event_offers.specs.declared.drafts.Entry.{Entry}
-use Rattle.menu_builder.proofs.HandedOn.{ordered_entry}
-use Rattle.menu_parts.proofs.SolvedMenus.{IsSolvedForm, form_order, IsMenu, menu_of}
-use Rattle.menu_parts.specs.Items.{HasEntryTerms, HasItemTerms, IsItemOver, plain_item}
-use Rattle.menu_parts.specs.declared.items.Item.{Item}
+use Rattle.shared_entries.specs.HandedOn.{plain_entry, IsEntryOver, IsOrderedEntry, Entry}
+use Rattle.shared_entries.proofs.HandedOn.{ordered_entry}
+use Rattle.shared_entries.proofs.SolvedMenus.{IsSolvedForm, form_order, IsMenu, menu_of}
+use Rattle.shared_entries.specs.Items.{HasEntryTerms, HasItemTerms, IsItemOver, plain_item}
+use Rattle.shared_entries.specs.declared.items.Item.{Item}
 use Rattle.step_taker.specs.Taken.{Ground}
 use Rattle.step_taker.specs.Walked.{IsClosedOn}
-use Rattle.menu_parts.specs.Forms.{IsBase, IsExactOn}
+use Rattle.menu_parts.specs.Forms.{IsLawfulGround, IsExactOn}
 
-pub over_of : (basis : Ground) (b : Behaviour) → IsBase basis → IsClosedOn basis b
+pub over_of : (basis : Ground) (b : Behaviour) → IsLawfulGround basis → IsClosedOn basis b
     → AreOver basis.data_ basis.canon (specification_of basis.spec) b
 over_of basis b base closed =
     record { signature = base.signature; is_canon = base.is_canon; well_formed = base.over.well_formed; closed = closed }
@@ -40,7 +38,7 @@ both_all P Q R (x ∷ xs) make h k = (make x h.0 k.0, both_all P Q R xs make h.1
 abbrev IsLeft : Signature → solving.Entry → Type 0
 IsLeft signature entry = IsOrderedEntry signature entry × IsInOrder signature (as_draft entry)
 
-module _ (basis : Ground) (b : Behaviour) (base : IsBase basis) (closed : IsClosedOn basis b) where
+module _ (basis : Ground) (b : Behaviour) (base : IsLawfulGround basis) (closed : IsClosedOn basis b) where
   all_left : (entries : List solving.Entry) → IsExactOn basis b entries → Every (IsLeft basis.data_.signature) entries
   all_left entries exact =
       let menu : IsMenu basis.data_ basis.canon (specification_of basis.spec) b entries =

@@ -14,14 +14,14 @@ use Rattle.behaviour_semantics.specs.WellFormed.{Every}
 use Rattle.behaviour_semantics.proofs.ListLemmas.{Every-append}
 use Rattle.behaviour_tree.specs.StateView.{stands_for}
 use Rattle.behaviour_tree.specs.declared.states.Node.{Node}
-use Rattle.menu_parts.specs.Forms.{IsBase, IsExactOn, IsMadeBeside}
-use Rattle.menu_parts.specs.Items.{HasItemTerms, IsItemOver, plain_item}
-use Rattle.menu_parts.specs.KeptMenus.{AreKeptBelow, IsKept, IsKeptAs, IsKeptFor, IsListed, IsSpreadFor}
-use Rattle.menu_parts.specs.PartMenus.{joins, relabel_menu}
-use Rattle.menu_parts.specs.PartRule.{alone_rule, under_rule}
-use Rattle.menu_parts.specs.Rules.{AreMadeBy}
+use Rattle.menu_parts.specs.Forms.{IsLawfulGround, IsExactOn, IsMadeBeside}
+use Rattle.shared_entries.specs.Items.{HasItemTerms, IsItemOver, plain_item}
+use Rattle.menu_parts.specs.KeptMenus.{AreKeptBelow, IsKept, IsKeptAs, IsKeptFor, IsListedMenu, IsSpreadFor}
+use Rattle.shared_entries.specs.PartMenus.{joins, relabel_menu}
+use Rattle.shared_entries.specs.PartRule.{alone_rule, under_rule}
+use Rattle.shared_entries.specs.Rules.{AreEntriesMadeBy}
 use Rattle.menu_parts.specs.Spread.{AreByWay, IsOpened, IsRelabelled, NoneEnds, listed_for, of_left, of_right, spread_items, spread_menu}
-use Rattle.menu_parts.specs.declared.items.Item.{Item}
+use Rattle.shared_entries.specs.declared.items.Item.{Item}
 use Rattle.menu_parts.specs.declared.kept.Kept.{Kept, Beside}
 use Rattle.menu_parts.specs.declared.kept.Listed.{Listed}
 use Rattle.menu_parts.specs.declared.kept.Spread.{Spread, Side, Under, Both}
@@ -107,7 +107,7 @@ beside_for basis node listed s made is e h same terms =
     let here : Every (HasItemTerms basis.data_.signature) (spread_items s.value) = kept_item_terms basis (λ entries. entries) s.value h.0 in
     let menu : map plain_item listed.items.items ≡ spread_menu s.value =
     same here ∙ kept_items basis (λ entries. entries) (λ xs ys. refl) s.value h.0 in
-    let list : IsListed basis listed = record {
+    let list : IsListedMenu basis listed = record {
       exact = subst (λ (n : Node). IsExactOn basis (stands_for n) (map plain_item listed.items.items)) (sym is)
           (subst (λ (entries : List Entry). IsExactOn basis (stands_for node) entries) (sym menu) h.1);
       terms = terms here;
@@ -133,14 +133,15 @@ kept_up basis way k given made e h all =
 
 pub kept_rule : (basis : Ground) (rule : Entry → Option Entry) (k : Kept) (given : Vec Item Global) (made : List Item)
     → given ≡ (listed_for k).items → IsKept basis k
-    → ((signature : Signature) → Every (HasItemTerms signature) given.items → AreMadeBy signature rule given.items made)
-    → AreMadeBy basis.data_.signature rule (listed_for k).items.items made
+    → ((signature : Signature) → Every (HasItemTerms signature) given.items → AreEntriesMadeBy signature rule given.items made)
+    → AreEntriesMadeBy basis.data_.signature rule (listed_for k).items.items made
 kept_rule basis rule k given made e h all =
-    subst (λ (v : Vec Item Global). AreMadeBy basis.data_.signature rule v.items made) e
+    subst (λ (v : Vec Item Global). AreEntriesMadeBy basis.data_.signature rule v.items made) e
     (all basis.data_.signature
     (subst (λ (v : Vec Item Global). Every (HasItemTerms basis.data_.signature) v.items) (sym e) (root_listed basis k h).terms))
 
-pub kept_order : (basis : Ground) (base : IsBase basis) (b : Behaviour) (k : Kept) (given : Vec Item Global) → given ≡ (listed_for k).items
+pub kept_order : (basis : Ground) (base : IsLawfulGround basis) (b : Behaviour) (k : Kept) (given : Vec Item Global)
+    → given ≡ (listed_for k).items
     → IsClosedOn basis b → IsKeptAs basis b k → Every (IsItemOver basis.data_.signature) given.items
 kept_order basis base b k given e closed h =
     subst (λ (v : Vec Item Global). Every (IsItemOver basis.data_.signature) v.items) (sym e)
@@ -170,8 +171,8 @@ module _ (basis : Ground) (way : List Entry → List Entry) (o : Option (Bor (Rc
   )
 
 -- the opened form of a node
-pub opened_at : (basis : Ground) (closed node : Node) (form : Opened) → node ≡ closed → IsBase basis → IsPassableNode basis closed
-    → ((basis : Ground) → IsBase basis → IsPassableNode basis node → IsOpened basis (stands_for node) form)
+pub opened_at : (basis : Ground) (closed node : Node) (form : Opened) → node ≡ closed → IsLawfulGround basis → IsPassableNode basis closed
+    → ((basis : Ground) → IsLawfulGround basis → IsPassableNode basis node → IsOpened basis (stands_for node) form)
     → IsOpened basis (stands_for closed) form
 opened_at basis closed node form e base h tells =
     subst (λ (n : Node). IsOpened basis (stands_for n) form) e (tells basis base (subst (IsPassableNode basis) (sym e) h))

@@ -16,8 +16,8 @@ use Rattle.behaviour_semantics.specs.Shape.{Shape, left_side, right_side}
 use Rattle.behaviour_semantics.specs.Solving.{Entry}
 use Rattle.behaviour_semantics.specs.WellFormed.{Every}
 use Rattle.behaviour_semantics.proofs.ListLemmas.{Every-append}
-use Rattle.menu_parts.specs.PartMenus.{joins, parallel_menu, relabel_menu}
-use Rattle.menu_parts.specs.PartRule.{PartRule, all_by_rule, alone_rule, by_rule, changed}
+use Rattle.shared_entries.specs.PartMenus.{joins, parallel_menu, relabel_menu}
+use Rattle.shared_entries.specs.PartRule.{PartRule, all_by_rule, alone_rule, by_rule, changed}
 use Rattle.menu_parts.specs.Spread.{NoneEnds, of_left, of_right}
 
 -- ---- What does not end.

@@ -11,11 +11,11 @@ use Rattle.behaviour_semantics.specs.Shape.{left_side, right_side, relabelled}
 use Rattle.behaviour_semantics.specs.Solving.{Entry}
 use Rattle.behaviour_semantics.specs.WellFormed.{Every}
 use Rattle.behaviour_semantics.proofs.EveryLemmas.{every_back, every_front}
-use Rattle.menu_parts.specs.Items.{HasItemTerms, plain_item}
-use Rattle.menu_parts.specs.PartRule.{alone_rule, by_rule, under_rule}
-use Rattle.menu_parts.specs.Rules.{AreMadeBy}
+use Rattle.shared_entries.specs.Items.{HasItemTerms, plain_item}
+use Rattle.shared_entries.specs.PartRule.{alone_rule, by_rule, under_rule}
+use Rattle.shared_entries.specs.Rules.{AreEntriesMadeBy}
 use Rattle.menu_parts.specs.Spread.{AreByWay, by_way, spread_items}
-use Rattle.menu_parts.specs.declared.items.Item.{Item}
+use Rattle.shared_entries.specs.declared.items.Item.{Item}
 use Rattle.menu_parts.specs.declared.kept.Spread.{Spread, Both}
 use Rattle.menu_parts.specs.declared.ways.Way.{Way, Top, Left, Right, Under}
 use Rattle.menu_parts.proofs.SpreadLemmas.{all_kept}
@@ -24,20 +24,21 @@ module _ (signature : Signature) (way : Way) (given made : List Item) where
   abbrev IsUp : Way → Type 0
   IsUp w = AreByWay signature (by_way w) given made
 
-  pub top_up : way ≡ Top → AreMadeBy signature (λ (entry : Entry). Some entry) given made → AreByWay signature (by_way way) given made
+  pub top_up : way ≡ Top → AreEntriesMadeBy signature (λ (entry : Entry). Some entry) given made
+      → AreByWay signature (by_way way) given made
   top_up is h = subst IsUp (sym is) (record { same = h.same ∙ all_kept (map plain_item given); terms = h.terms })
 
   module _ (above : Bor Way) (between : List Item) (k : AreByWay signature (by_way above.now) between made) where
-    pub left_up : way ≡ Left above → AreMadeBy signature (by_rule (alone_rule no_gates left_side)) given between
+    pub left_up : way ≡ Left above → AreEntriesMadeBy signature (by_rule (alone_rule no_gates left_side)) given between
         → AreByWay signature (by_way way) given made
     left_up is h = subst IsUp (sym is) (record { same = k.same ∙ ap (by_way above.now) h.same; terms = k.terms })
 
-    pub right_up : way ≡ Right above → AreMadeBy signature (by_rule (alone_rule no_gates right_side)) given between
+    pub right_up : way ≡ Right above → AreEntriesMadeBy signature (by_rule (alone_rule no_gates right_side)) given between
         → AreByWay signature (by_way way) given made
     right_up is h = subst IsUp (sym is) (record { same = k.same ∙ ap (by_way above.now) h.same; terms = k.terms })
 
     pub under_up : (pairs : Bor (Vec (ℕ × ℕ) Global)) → way ≡ Under pairs above
-        → AreMadeBy signature (by_rule (under_rule relabelled pairs.now.items)) given between
+        → AreEntriesMadeBy signature (by_rule (under_rule relabelled pairs.now.items)) given between
         → AreByWay signature (by_way way) given made
     under_up pairs is h = subst IsUp (sym is) (record { same = k.same ∙ ap (by_way above.now) h.same; terms = k.terms })
 
@@ -48,7 +49,7 @@ all_pushed items more own copies e same =
     ap (map plain_item) e ∙ (map-append plain_item items copies ∙ ap (λ (xs : List Entry). map plain_item items ++ xs) same)
 
 pub own_pushed : (signature : Signature) (items more own copies : List Item) → more ≡ items ++ copies
-    → AreMadeBy signature (λ (entry : Entry). Some entry) own copies
+    → AreEntriesMadeBy signature (λ (entry : Entry). Some entry) own copies
     → map plain_item more ≡ map plain_item items ++ map plain_item own
 own_pushed signature items more own copies e h =
     all_pushed items more own copies e (h.same ∙ all_kept (map plain_item own))

@@ -10,16 +10,16 @@ use Rattle.behaviour_tree.specs.BehaviourView.{meet_of}
 use Rattle.behaviour_tree.specs.DefinitionView.{specification_of}
 use Rattle.behaviour_tree.specs.Over.{IsSpecOver}
 use Rattle.behaviour_tree.specs.StateView.{stands_for}
-use Rattle.menu_parts.specs.PartMenus.{joins, parallel_menu, sides_menu}
-use Rattle.menu_parts.specs.Rules.{made_by}
-use Rattle.menu_parts.specs.declared.rules.PartRule.{PartRule}
+use Rattle.shared_entries.specs.PartMenus.{joins, parallel_menu, sides_menu}
+use Rattle.shared_entries.specs.Rules.{entry_made_by}
+use Rattle.shared_entries.specs.declared.rules.PartRule.{PartRule}
 use Rattle.step_taker.specs.Taken.{Ground}
 use Rattle.step_taker.specs.Walked.{IsPassableNode}
 use Rattle.menu_parts.specs.declared.forms.Form.{Form}
 use Rattle.menu_parts.specs.declared.forms.Form.TheVariants.{Whole, One, Either, Beside}
 
 -- The data have a canon over a well-formed signature, and the specification is over it.
-pub record IsBase (basis : Ground) : Type 0 where
+pub record IsLawfulGround (basis : Ground) : Type 0 where
   pub signature : IsWellFormedSignature basis.data_.signature
   pub is_canon : IsCanon basis.data_ basis.canon
   pub over : IsSpecOver basis.data_.signature basis.spec
@@ -33,7 +33,7 @@ IsExactOn basis b entries = Exact basis.data_ basis.canon (specification_of basi
 abbrev pub IsMadeOf : Ground → PartRule → Behaviour → Behaviour → Type 0
 IsMadeOf basis rule part whole =
     (entries : List Entry) → IsExactOn basis part entries
-    → IsExactOn basis whole (filter_map (made_by basis.data_.signature rule) entries)
+    → IsExactOn basis whole (filter_map (entry_made_by basis.data_.signature rule) entries)
 
 abbrev pub IsMadeOfEither : Ground → Behaviour → Behaviour → Behaviour → Type 0
 IsMadeOfEither basis left right whole =

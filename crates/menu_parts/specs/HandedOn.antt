@@ -1,6 +1,2 @@
 -- What crates above this one need of the crates below it.
-pub use Rattle.menu_builder.specs.HandedOn.{call_pairs}
-pub use Rattle.event_offers.specs.OfferView.{plain_entry}
-pub use Rattle.event_offers.specs.Offers.{IsEntryOver, IsOrderedEntry}
-pub use Rattle.event_offers.specs.declared.drafts.Entry.{Entry}
-pub use Rattle.event_offers.specs.declared.menus.Menu.{Menu}
+pub use Rattle.shared_entries.specs.HandedOn.{call_pairs, plain_entry, IsEntryOver, IsOrderedEntry, Entry, Menu}

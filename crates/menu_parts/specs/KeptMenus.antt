@@ -12,11 +12,11 @@ use Rattle.behaviour_semantics.specs.WellFormed.{Every}
 use Rattle.behaviour_tree.specs.DefinitionView.{specification_of}
 use Rattle.behaviour_tree.specs.StateView.{stands_for}
 use Rattle.behaviour_tree.specs.declared.definitions.Spec.{Spec}
-use Rattle.menu_parts.specs.Items.{HasItemTerms, plain_item}
+use Rattle.shared_entries.specs.Items.{HasItemTerms, plain_item}
 use Rattle.step_taker.specs.Taken.{Ground, ground_of}
-use Rattle.menu_builder.specs.HandedOn.{AreRanksOf}
-use Rattle.menu_parts.specs.Forms.{IsBase, IsExactOn}
-use Rattle.menu_parts.specs.PartMenus.{relabel_menu}
+use Rattle.shared_entries.specs.HandedOn.{AreRanksOf}
+use Rattle.menu_parts.specs.Forms.{IsLawfulGround, IsExactOn}
+use Rattle.shared_entries.specs.PartMenus.{relabel_menu}
 use Rattle.menu_parts.specs.Spread.{AreByWay, NoneEnds, listed_for, of_left, of_right, spread_menu}
 use Rattle.menu_parts.specs.declared.kept.Kept.{Kept, Whole, One', Two', Beside'}
 use Rattle.menu_parts.specs.declared.kept.Spread.{Spread, Side', Under', Both'}
@@ -26,17 +26,17 @@ use Rattle.menu_parts.specs.declared.makers.PartMenus.{PartMenus}
 use Rattle.behaviour_tree.specs.declared.states.Node.{Node}
 
 -- The entries are the exact menu of what the node stands for, and their terms are of the signature.
-pub record IsListed (basis : Ground) (listed : Listed) : Type 0 where
+pub record IsListedMenu (basis : Ground) (listed : Listed) : Type 0 where
   pub exact : IsExactOn basis (stands_for listed.node.value) (map plain_item listed.items.items)
   pub terms : Every (HasItemTerms basis.data_.signature) listed.items.items
 
 abbrev mutual
   -- it is exact, and so are those of all parts
   pub IsKept : Ground → Kept → Type 0
-  IsKept basis (Whole listed) = IsListed basis listed
-  IsKept basis (One' listed _ part) = IsListed basis listed × IsKept basis part
-  IsKept basis (Two' listed _ left _ right) = IsListed basis listed × IsKept basis left × IsKept basis right
-  IsKept basis (Beside' listed _ spread) = IsListed basis listed × AreKeptBelow basis (λ entries. entries) spread
+  IsKept basis (Whole listed) = IsListedMenu basis listed
+  IsKept basis (One' listed _ part) = IsListedMenu basis listed × IsKept basis part
+  IsKept basis (Two' listed _ left _ right) = IsListedMenu basis listed × IsKept basis left × IsKept basis right
+  IsKept basis (Beside' listed _ spread) = IsListedMenu basis listed × AreKeptBelow basis (λ entries. entries) spread
 
   -- so are those of parts side by side; the items of each part are what the whole has of its menu, by the way up to the whole;
   -- and what stands under a relabelling does not end
@@ -63,12 +63,12 @@ IsSpreadFor basis way b spread = AreKeptBelow basis way spread × IsExactOn basi
 -- What menus are made over: the specification is over data with a canon, its ranks are its own, and the number is above all
 -- variables that processes declare.
 pub record IsMaking (basis : Ground) (making : Making) : Type 0 where
-  pub base : IsBase basis
+  pub base : IsLawfulGround basis
   pub ranks : AreRanksOf basis.spec making.ranks.now
   pub least : above_processes (specification_of basis.spec).processes ≤ making.least
 
 -- The maker suits the specification with the data and the canon: its number is above all variables that processes declare,
 -- and each menu that it keeps is the exact one.
-pub record Suits (maker : PartMenus) (spec : Spec) (data_ : Data) (canon : Term → Term) : Type 0 where
+pub record MakerSuits (maker : PartMenus) (spec : Spec) (data_ : Data) (canon : Term → Term) : Type 0 where
   pub least : above_processes (specification_of spec).processes ≤ maker.least
   pub kept : IfSome maker.kept (λ (k : Rc Kept Global). IsKept (ground_of data_ canon spec) k.value)

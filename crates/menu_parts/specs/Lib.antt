@@ -1,13 +1,3 @@
-pub mod Instances
-pub mod PartRule
-pub mod PartMenus
-pub mod PartMenuLaws
-pub mod KeptTree
-pub mod KeptTreeLaws
-pub mod MenuExamples
-pub mod Items
-pub mod Rules
-pub mod Joined
 pub mod Forms
 pub mod Spread
 pub mod KeptMenus

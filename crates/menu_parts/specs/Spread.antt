@@ -9,10 +9,10 @@ use Rattle.behaviour_semantics.specs.Solving.{Entry}
 use Rattle.behaviour_semantics.specs.WellFormed.{Every}
 use Rattle.behaviour_tree.specs.StateView.{stands_for}
 use Rattle.menu_parts.specs.Forms.{IsExactOn, IsMadeBeside}
-use Rattle.menu_parts.specs.Items.{HasItemTerms, plain_item}
-use Rattle.menu_parts.specs.PartMenus.{parallel_menu, relabel_menu}
-use Rattle.menu_parts.specs.PartRule.{all_by_rule, alone_rule}
-use Rattle.menu_parts.specs.declared.items.Item.{Item}
+use Rattle.shared_entries.specs.Items.{HasItemTerms, plain_item}
+use Rattle.shared_entries.specs.PartMenus.{parallel_menu, relabel_menu}
+use Rattle.shared_entries.specs.PartRule.{all_by_rule, alone_rule}
+use Rattle.shared_entries.specs.declared.items.Item.{Item}
 use Rattle.menu_parts.specs.declared.kept.Kept.{Kept, Whole, One', Two', Beside'}
 use Rattle.menu_parts.specs.declared.kept.Listed.{Listed}
 use Rattle.menu_parts.specs.declared.kept.Spread.{Spread, Side', Under', Both'}

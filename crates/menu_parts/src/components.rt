@@ -6,14 +6,13 @@ ghost use Rattle.step_taker.specs.HandedOn.{KeepsData};
 ghost use Rattle.step_taker.specs.Taken.{ground_of};
 ghost use Rattle.step_taker.specs.Walked.{IsPassableNode};
 
-use crate::items::items_of;
 use crate::kept::{Kept, Listed};
 use crate::rooms::Room;
 use behaviour_tree::boxes::{owner, shared};
 use behaviour_tree::{Node, Spec};
 use lotos_base::NoMemory;
-use menu_builder::menus::node_entries;
-use menu_builder::{Levels, Ranks};
+use shared_entries::items::items_of;
+use shared_entries::{Levels, Ranks, node_entries};
 use sort_terms::Deciding;
 use std::alloc::Global;
 use std::rc::Rc;

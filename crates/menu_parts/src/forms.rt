@@ -12,7 +12,7 @@ ghost use Rattle.behaviour_tree.specs.BehaviourView.{
 };
 ghost use Rattle.behaviour_tree.specs.DefinitionView.{process_of};
 ghost use Rattle.behaviour_tree.specs.StateView.{stands_for};
-ghost use Rattle.menu_parts.specs.Forms.{IsBase, IsForm};
+ghost use Rattle.menu_parts.specs.Forms.{IsLawfulGround, IsForm};
 ghost use Rattle.sort_terms.specs.ProfiledTerm.{ProfiledTerm};
 ghost use Rattle.std.specs.Prelude.{◌≡◌, ◌++◌, IfOk, List, map, zip};
 ghost use Rattle.step_taker.specs.HandedOn.{KeepsData};
@@ -21,11 +21,11 @@ ghost use Rattle.step_taker.specs.Taken.{Ground, ground_of};
 ghost use Rattle.step_taker.specs.Walked.{IsPassable, IsPassableNode};
 
 use crate::parts::own_node;
-use crate::rules::PartRule;
 use behaviour_tree::boxes::shared;
 use behaviour_tree::{Beh, Meet, Node, Process};
 use lotos_base::NoMemory;
-use menu_builder::{Call, Variant};
+use shared_entries::rules::PartRule;
+use shared_entries::{Call, Variant};
 use sort_terms::{Deciding, Sorted, Variable};
 use std::alloc::Global;
 use std::rc::Rc;
@@ -53,7 +53,7 @@ pub fn node_form<'a, D: Deciding>(
     node: &'a Node,
     decider: &mut D,
 ) -> Result<Form<'a>, NoMemory>
-    requires base { IsBase
+    requires base { IsLawfulGround
         (ground_of (D.known_data decider.old) (D.canon decider.old) walk.now.spec.now) }
     requires node { IsPassableNode
         (ground_of (D.known_data decider.old) (D.canon decider.old) walk.now.spec.now) node.now }
@@ -97,7 +97,7 @@ fn behaviour_form<'a, D: Deciding>(
     behaviour: &'a Beh,
     decider: &mut D,
 ) -> Result<Form<'a>, NoMemory>
-    requires base { IsBase
+    requires base { IsLawfulGround
         (ground_of (D.known_data decider.old) (D.canon decider.old) walk.now.spec.now) }
     requires part { IsPassable
         (ground_of (D.known_data decider.old) (D.canon decider.old) walk.now.spec.now)
@@ -139,7 +139,7 @@ fn parallel_form<'a>(
     left: &Side<'_>,
     right: &Side<'_>,
 ) -> Result<Form<'a>, NoMemory>
-    ensures { IfOk result (λ form. (basis : Ground) → IsBase basis
+    ensures { IfOk result (λ form. (basis : Ground) → IsLawfulGround basis
         → IsPassable basis (plain.parallel (meet_of meet.now) (side_of left.now)
         (side_of right.now)) (side_profiles left.now ++ side_profiles right.now)
         → IsSideState left.now → IsSideState right.now
@@ -153,7 +153,7 @@ fn parallel_form<'a>(
 
 // The form of a hiding.
 fn hide_form<'a>(alloc: Global, gates: &'a Vec<u32>, part: &Side<'_>) -> Result<Form<'a>, NoMemory>
-    ensures { IfOk result (λ form. (basis : Ground) → IsBase basis
+    ensures { IfOk result (λ form. (basis : Ground) → IsLawfulGround basis
         → IsPassable basis (plain.hide gates.now.items (side_of part.now))
         (side_profiles part.now) → IsSideState part.now
         → IsForm basis (plain.hide gates.now.items (side_of part.now)) form) }
@@ -169,7 +169,7 @@ fn enable_form<'a>(
     left: &Side<'_>,
 ) -> Result<Form<'a>, NoMemory>
     ensures { IfOk result (λ form. (basis : Ground) (right : Behaviour)
-        (terms : List ProfiledTerm) → IsBase basis
+        (terms : List ProfiledTerm) → IsLawfulGround basis
         → IsPassable basis (plain.enable (side_of left.now)
         (variables_of variables.now.items) right) (side_profiles left.now ++ terms)
         → IsSideState left.now → IsForm basis (plain.enable (side_of left.now)
@@ -181,7 +181,7 @@ fn enable_form<'a>(
 
 // The form of a disabling.
 fn disable_form<'a>(alloc: Global, left: &Side<'_>, right: &Side<'_>) -> Result<Form<'a>, NoMemory>
-    ensures { IfOk result (λ form. (basis : Ground) → IsBase basis
+    ensures { IfOk result (λ form. (basis : Ground) → IsLawfulGround basis
         → IsPassable basis (plain.disable (side_of left.now) (side_of right.now))
         (side_profiles left.now ++ side_profiles right.now)
         → IsSideState left.now → IsSideState right.now
@@ -198,7 +198,7 @@ fn relabel_form<'a>(
     pairs: &Vec<(u32, u32)>,
     part: &Side<'_>,
 ) -> Result<Form<'a>, NoMemory>
-    ensures { IfOk result (λ form. (basis : Ground) → IsBase basis
+    ensures { IfOk result (λ form. (basis : Ground) → IsLawfulGround basis
         → IsPassable basis (plain.relabel pairs.now.items (side_of part.now))
         (side_profiles part.now) → IsSideState part.now
         → IsForm basis (plain.relabel pairs.now.items (side_of part.now)) form) }
@@ -218,7 +218,7 @@ fn copies_form<'a>(
     meet: &Meet,
     part: &Rc<Beh>,
 ) -> Result<Form<'a>, NoMemory>
-    ensures { IfOk result (λ form. (basis : Ground) → IsBase basis
+    ensures { IfOk result (λ form. (basis : Ground) → IsLawfulGround basis
         → IsPassable basis (plain.par_gate formal gates.now.items (meet_of meet.now)
         (behaviour_of part.now.value)) (profiles_in part.now.value)
         → IsForm basis (plain.par_gate formal gates.now.items (meet_of meet.now)
@@ -254,7 +254,7 @@ fn let_form<'a, D: Deciding>(
     part: &Beh,
     decider: &mut D,
 ) -> Result<Form<'a>, NoMemory>
-    requires base { IsBase
+    requires base { IsLawfulGround
         (ground_of (D.known_data decider.old) (D.canon decider.old) walk.now.spec.now) }
     requires part { IsPassable
         (ground_of (D.known_data decider.old) (D.canon decider.old) walk.now.spec.now)
@@ -281,7 +281,7 @@ fn call_form<'a, D: Deciding>(
     values: &Vec<Sorted>,
     decider: &mut D,
 ) -> Result<Form<'a>, NoMemory>
-    requires base { IsBase
+    requires base { IsLawfulGround
         (ground_of (D.known_data decider.old) (D.canon decider.old) walk.now.spec.now) }
     requires part { IsPassable
         (ground_of (D.known_data decider.old) (D.canon decider.old) walk.now.spec.now)

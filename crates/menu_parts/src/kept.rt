@@ -1,14 +1,14 @@
 //! Menus that are kept: for a node, and for its parts.
 
 ghost use Rattle.behaviour_tree.specs.StateView.{stands_for};
-ghost use Rattle.menu_parts.specs.KeptMenus.{AreKeptBelow, IsKept, IsListed};
+ghost use Rattle.menu_parts.specs.KeptMenus.{AreKeptBelow, IsKept, IsListedMenu};
 ghost use Rattle.menu_parts.specs.Spread.{listed_for};
 ghost use Rattle.std.specs.Prelude.{◌≡◌, ◌↔◌, IfSome, IsTrue};
 ghost use Rattle.step_taker.specs.Taken.{Ground};
 
-use crate::items::Item;
 use behaviour_tree::Node;
 use same_behaviours::same_nodes;
+use shared_entries::items::Item;
 use std::rc::Rc;
 
 /// The exact menu of what a node stands for.
@@ -51,7 +51,7 @@ impl Kept {
     /// The menu of the node itself.
     pub fn listed(&self) -> &Listed
         ensures same { result.now ≡ listed_for self.now }
-        ensures kept { (basis : Ground) → IsKept basis self.now → IsListed basis result.now }
+        ensures kept { (basis : Ground) → IsKept basis self.now → IsListedMenu basis result.now }
     {
         match self {
             Kept::Whole(listed) => listed,

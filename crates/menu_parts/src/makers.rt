@@ -4,14 +4,13 @@ ghost use Rattle.behaviour_semantics.specs.WellFormed.{Every};
 ghost use Rattle.lotos_base.specs.Equation.{Data};
 ghost use Rattle.lotos_base.specs.Signature.{Signature};
 ghost use Rattle.lotos_base.specs.Term.{Term};
-ghost use Rattle.menu_builder.specs.Menus.{entries_in};
-ghost use Rattle.menu_parts.specs.KeptMenus.{Suits};
-ghost use Rattle.menu_parts.specs.Items.{HasEntryTerms, HasItemTerms, plain_item};
+ghost use Rattle.shared_entries.specs.HandedOn.{entries_in};
+ghost use Rattle.menu_parts.specs.KeptMenus.{MakerSuits};
+ghost use Rattle.shared_entries.specs.Items.{HasEntryTerms, HasItemTerms, plain_item};
 ghost use Rattle.menu_parts.specs.Spread.{listed_for};
 ghost use Rattle.std.specs.Prelude.{◌≡◌, IfOk, map};
 
 use crate::components::Making;
-use crate::items::entries_of;
 use crate::kept::Kept;
 use crate::making::brought;
 use crate::rooms::Room;
@@ -19,8 +18,8 @@ use crate::widths::is_wide;
 use behaviour_tree::boxes::shared;
 use behaviour_tree::{Spec, State};
 use lotos_base::NoMemory;
-use menu_builder::numbers::above_processes;
-use menu_builder::{Menu, MenuMaker, Ranks, menu};
+use shared_entries::items::entries_of;
+use shared_entries::{Menu, MenuMaker, Ranks, above_processes, menu};
 use sort_terms::Deciding;
 use std::alloc::Global;
 use std::rc::Rc;
@@ -40,7 +39,7 @@ impl PartMenus {
     /// A maker of menus for the states of the specification, which keeps none yet.
     pub fn open(spec: &Spec) -> Result<PartMenus, NoMemory>
         ensures { IfOk result (λ maker. (data_ : Data) (canon : Term → Term)
-            → Suits maker spec.now data_ canon) }
+            → MakerSuits maker spec.now data_ canon) }
     {
         let least = above_processes(spec, 0)?;
         Ok(PartMenus {
@@ -52,7 +51,7 @@ impl PartMenus {
 }
 
 impl MenuMaker for PartMenus {
-    ghost suits = { Suits };
+    ghost suits = { MakerSuits };
 
     fn make<D: Deciding>(
         &mut self,

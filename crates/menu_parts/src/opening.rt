@@ -4,7 +4,7 @@ ghost use Rattle.behaviour_semantics.specs.Behaviour as plain;
 ghost use Rattle.behaviour_tree.specs.BehaviourTerms.{profiles_in};
 ghost use Rattle.behaviour_tree.specs.BehaviourView.{behaviour_of, meet_of};
 ghost use Rattle.behaviour_tree.specs.StateView.{stands_for};
-ghost use Rattle.menu_parts.specs.Forms.{IsBase};
+ghost use Rattle.menu_parts.specs.Forms.{IsLawfulGround};
 ghost use Rattle.menu_parts.specs.Spread.{IsOpened};
 ghost use Rattle.std.specs.Prelude.{◌++◌, IfOk};
 ghost use Rattle.step_taker.specs.Sides.{IsSideState, side_of, side_profiles};
@@ -51,7 +51,7 @@ fn is_beside(node: &Node) -> bool {
 
 /// The parts of the node that stand side by side, or the one under its relabelling.
 pub fn open_node(alloc: Global, node: &Node) -> Result<Opened, NoMemory>
-    ensures { IfOk result (λ made. (basis : Ground) → IsBase basis
+    ensures { IfOk result (λ made. (basis : Ground) → IsLawfulGround basis
         → IsPassableNode basis node.now → IsOpened basis (stands_for node.now) made) }
 {
     match node {
@@ -72,7 +72,7 @@ pub fn open_node(alloc: Global, node: &Node) -> Result<Opened, NoMemory>
 
 // The same of a closed behaviour.
 fn open_behaviour(alloc: Global, behaviour: &Beh) -> Result<Opened, NoMemory>
-    ensures { IfOk result (λ made. (basis : Ground) → IsBase basis
+    ensures { IfOk result (λ made. (basis : Ground) → IsLawfulGround basis
         → IsPassable basis (behaviour_of behaviour.now) (profiles_in behaviour.now)
         → IsOpened basis (behaviour_of behaviour.now) made) }
 {
@@ -91,7 +91,7 @@ fn open_relabelling(
     pairs: &Vec<(u32, u32)>,
     part: &Side<'_>,
 ) -> Result<Opened, NoMemory>
-    ensures { IfOk result (λ made. (basis : Ground) → IsBase basis
+    ensures { IfOk result (λ made. (basis : Ground) → IsLawfulGround basis
         → IsPassable basis (plain.relabel pairs.now.items (side_of part.now))
         (side_profiles part.now) → IsSideState part.now
         → IsOpened basis (plain.relabel pairs.now.items (side_of part.now)) made) }
@@ -108,7 +108,7 @@ fn open_parallel(
     left: &Side<'_>,
     right: &Side<'_>,
 ) -> Result<Opened, NoMemory>
-    ensures { IfOk result (λ made. (basis : Ground) → IsBase basis
+    ensures { IfOk result (λ made. (basis : Ground) → IsLawfulGround basis
         → IsPassable basis (plain.parallel (meet_of meet.now) (side_of left.now)
         (side_of right.now)) (side_profiles left.now ++ side_profiles right.now)
         → IsSideState left.now → IsSideState right.now

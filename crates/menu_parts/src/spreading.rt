@@ -2,24 +2,24 @@
 
 ghost use Rattle.behaviour_semantics.specs.Behaviour.{Behaviour, no_gates};
 ghost use Rattle.behaviour_tree.specs.StateView.{stands_for};
-ghost use Rattle.event_offers.specs.Keeping.{KeepsData};
-ghost use Rattle.menu_parts.specs.Forms.{IsBase, IsMadeBeside};
+ghost use Rattle.shared_entries.specs.HandedOn.{KeepsData};
+ghost use Rattle.menu_parts.specs.Forms.{IsLawfulGround, IsMadeBeside};
 ghost use Rattle.menu_parts.specs.KeptMenus.{IsKeptAs, IsKeptFor, IsSpreadFor};
-ghost use Rattle.menu_parts.specs.PartMenus.{relabel_menu};
+ghost use Rattle.shared_entries.specs.PartMenus.{relabel_menu};
 ghost use Rattle.menu_parts.specs.Spread.{IsRelabelled, by_way, of_left, of_right};
 ghost use Rattle.std.specs.Prelude.{IfOk};
 ghost use Rattle.step_taker.specs.Taken.{Ground, ground_of};
 ghost use Rattle.step_taker.specs.Walked.{IsPassableNode};
 
 use crate::components::Making;
-use crate::joins::beside;
 use crate::kept::{Kept, Listed, Spread};
-use crate::rules::PartRule;
 use crate::spreads::push_items;
 use crate::ways::Way;
 use behaviour_tree::boxes::{owner, shared};
 use behaviour_tree::{Meet, Node};
 use lotos_base::NoMemory;
+use shared_entries::joins::beside;
+use shared_entries::rules::PartRule;
 use sort_terms::Deciding;
 use std::alloc::Global;
 use std::rc::Rc;
@@ -96,7 +96,7 @@ pub fn both_made<D: Deciding>(
     second: Rc<Spread>,
     decider: &mut D,
 ) -> Result<Rc<Spread>, NoMemory>
-    requires base { IsBase
+    requires base { IsLawfulGround
         (ground_of (D.known_data decider.old) (D.canon decider.old) making.now.spec.now) }
     requires left { IsPassableNode
         (ground_of (D.known_data decider.old) (D.canon decider.old) making.now.spec.now)
@@ -143,7 +143,7 @@ fn both_kept<D: Deciding>(
     second: &Rc<Kept>,
     decider: &mut D,
 ) -> Result<Rc<Kept>, NoMemory>
-    requires base { IsBase
+    requires base { IsLawfulGround
         (ground_of (D.known_data decider.old) (D.canon decider.old) making.now.spec.now) }
     requires left { IsPassableNode
         (ground_of (D.known_data decider.old) (D.canon decider.old) making.now.spec.now)

@@ -5,9 +5,9 @@ ghost use Rattle.behaviour_semantics.specs.Solving.{Entry};
 ghost use Rattle.behaviour_semantics.specs.WellFormed.{Every};
 ghost use Rattle.behaviour_tree.specs.StateView.{stands_for};
 ghost use Rattle.lotos_base.specs.Signature.{Signature};
-ghost use Rattle.menu_parts.specs.Items.{HasItemTerms, plain_item};
+ghost use Rattle.shared_entries.specs.Items.{HasItemTerms, plain_item};
 ghost use Rattle.menu_parts.specs.KeptMenus.{AreKeptBelow, IsKept, IsSpreadFor};
-ghost use Rattle.menu_parts.specs.PartMenus.{relabel_menu};
+ghost use Rattle.shared_entries.specs.PartMenus.{relabel_menu};
 ghost use Rattle.menu_parts.specs.Spread.{
   NoneEnds,
   listed_for,
@@ -30,11 +30,11 @@ ghost use Rattle.std.specs.Prelude.{
 };
 ghost use Rattle.step_taker.specs.Taken.{Ground};
 
-use crate::items::Item;
 use crate::kept::{Kept, Spread};
-use crate::rules::PartRule;
 use behaviour_tree::{Label, Node};
 use lotos_base::NoMemory;
+use shared_entries::items::Item;
+use shared_entries::rules::PartRule;
 use std::rc::Rc;
 
 /// The parts side by side of the kept menus, if there are any.

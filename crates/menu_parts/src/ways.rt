@@ -2,15 +2,15 @@
 
 ghost use Rattle.behaviour_semantics.specs.WellFormed.{Every};
 ghost use Rattle.lotos_base.specs.Signature.{Signature};
-ghost use Rattle.menu_parts.specs.Items.{HasItemTerms};
+ghost use Rattle.shared_entries.specs.Items.{HasItemTerms};
 ghost use Rattle.menu_parts.specs.Spread.{AreByWay, by_way};
 ghost use Rattle.std.specs.Prelude.{IfOk};
 
-use crate::items::Item;
-use crate::rules::PartRule;
 use behaviour_tree::Meet;
 use lotos_base::NoMemory;
-use menu_builder::Variant;
+use shared_entries::Variant;
+use shared_entries::items::Item;
+use shared_entries::rules::PartRule;
 
 /// The way from a part up to the whole.
 #[derive(Clone, Copy)]

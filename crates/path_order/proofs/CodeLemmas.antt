@@ -12,27 +12,27 @@ use Rattle.lotos_base.specs.Path.{argument_at}
 use Rattle.termination_theory.specs.Precedence.{Status, Precedence}
 use Rattle.termination_theory.specs.OrderTest.{same_length, is_greater}
 use Rattle.sort_terms.specs.ProfiledTerm.{ProfiledTerms, bare, all_bare}
-use Rattle.sort_terms.specs.TermView.{all_profiled, term_of, terms_of}
+use Rattle.sort_terms.specs.TermView.{all_profiled, term_of, bare_terms_of}
 use Rattle.sort_terms.specs.declared.operations.Op.{Op}
 use Rattle.sort_terms.specs.declared.terms.Term.{Term}
 use Rattle.sort_terms.specs.declared.terms.Term.TheVariants.{Var, Node as TermNode}
 use Rattle.sort_terms.proofs.TermListLemmas.{with_last, terms_of-append}
 use Rattle.sort_terms.proofs.BuiltLists.{node_with_items, profiled_Node, profiled_Var}
-use Rattle.path_order.specs.Comparison.{Table, Tables, table_leaf, table_node, no_tables, table_then, compared, all_compared, each_compared, table_at, part_in, equals_in, exceeds_from, exceeds_all_in, some_reaches_in}
-use Rattle.path_order.specs.ComparedView.{table_of, all_tables}
+use Rattle.path_order.specs.Comparison.{ComparisonTable, ComparisonTables, table_leaf, table_node, no_tables, table_then, compared, all_compared, each_compared, table_at, part_in, equals_in, exceeds_from, exceeds_all_in, some_reaches_in}
+use Rattle.path_order.specs.ComparedView.{compared_table_of, all_tables}
 use Rattle.path_order.proofs.TableLemmas.{equal_whole, greater_whole, some_over_variable}
 use Rattle.path_order.specs.declared.compared.Compared.{Compared, Leaf, Node, the_lemmas}
 
-pub table_of-Leaf : (e g : Bool) → table_of (Leaf e g) ≡ table_leaf e g
+pub table_of-Leaf : (e g : Bool) → compared_table_of (Leaf e g) ≡ table_leaf e g
 table_of-Leaf e g = search (rules, the_lemmas)
 
-pub table_of-Node : (e g : Bool) (cs : Vec Compared Global) → table_of (Node e g cs) ≡ table_node e g (all_tables cs.items)
+pub table_of-Node : (e g : Bool) (cs : Vec Compared Global) → compared_table_of (Node e g cs) ≡ table_node e g (all_tables cs.items)
 table_of-Node e g cs = search (rules, the_lemmas)
 
 table_within : (cs : List Compared) (i : ℕ) (c : Compared) → i < length cs → c ≡ get_or cs i c
-    → table_at i (all_tables cs) ≡ Some (table_of c)
+    → table_at i (all_tables cs) ≡ Some (compared_table_of c)
 table_within [] i c h e = absurd (omega arith)
-table_within (d ∷ ds) zero c h e = ap (λ (z : Compared). Some (table_of z)) (sym e)
+table_within (d ∷ ds) zero c h e = ap (λ (z : Compared). Some (compared_table_of z)) (sym e)
 table_within (d ∷ ds) (suc i) c h e = table_within ds i c (omega arith) e
 
 table_past : (cs : List Compared) (i : ℕ) → length cs ≤ i → table_at i (all_tables cs) ≡ None
@@ -43,18 +43,18 @@ table_past (d ∷ ds) (suc i) h = table_past ds i (omega arith)
 -- what a look-up in the arguments gives is the table over that argument
 pub part_found : (e g : Bool) (cs : List Compared) (i : ℕ) (r : Option (Bor Compared))
     → is_some r ≡ ltb i (length cs) → IfSome r (λ x. x.now ≡ get_or cs i x.now)
-    → option_map (λ x. table_of x.now) r ≡ part_in i (table_node e g (all_tables cs))
+    → option_map (λ x. compared_table_of x.now) r ≡ part_in i (table_node e g (all_tables cs))
 part_found e g cs i None some is = sym (table_past cs i (ltb-false i (length cs) (sym some)))
 part_found e g cs i (Some x) some is = sym (table_within cs i x.now (ltb-true i (length cs) (sym some)) is)
 
 -- one table more at the end
-abbrev with_last_table : Tables → Table → Tables
+abbrev with_last_table : ComparisonTables → ComparisonTable → ComparisonTables
 with_last_table no_tables c = table_then c no_tables
 with_last_table (table_then d ds) c = table_then d (with_last_table ds c)
 
-all_tables-append : (cs : List Compared) (c : Compared) → all_tables (cs ++ c ∷ []) ≡ with_last_table (all_tables cs) (table_of c)
+all_tables-append : (cs : List Compared) (c : Compared) → all_tables (cs ++ c ∷ []) ≡ with_last_table (all_tables cs) (compared_table_of c)
 all_tables-append [] c = refl
-all_tables-append (d ∷ ds) c = ap (λ ts. table_then (table_of d) ts) (all_tables-append ds c)
+all_tables-append (d ∷ ds) c = ap (λ ts. table_then (compared_table_of d) ts) (all_tables-append ds c)
 
 all_compared-with_last : (p : Precedence) (t : PlainTerm) (us : Terms) (u : PlainTerm)
     → all_compared p t (with_last us u) ≡ with_last_table (all_compared p t us) (compared p t u)
@@ -64,42 +64,46 @@ all_compared-with_last p t (term_then v vs) u = ap (λ ts. table_then (compared 
 -- a list that the table over one more term was added to
 pub tables_more : (p : Precedence) (t : PlainTerm) (xs : List Term) (made new : List Compared) (i : ℕ) (x : Term) (y : Compared)
     → i < length xs → x ≡ get_or xs i x → new ≡ made ++ y ∷ []
-    → all_tables made ≡ all_compared p t (terms_of (take i xs)) → table_of y ≡ compared p t (term_of x)
-    → all_tables new ≡ all_compared p t (terms_of (take (i + 1) xs))
+    → all_tables made ≡ all_compared p t (bare_terms_of (take i xs)) → compared_table_of y ≡ compared p t (term_of x)
+    → all_tables new ≡ all_compared p t (bare_terms_of (take (i + 1) xs))
 tables_more p t xs made new i x y h e is so_far one =
     ap all_tables is ∙ all_tables-append made y
     ∙ (λ j. with_last_table (so_far j) (one j))
-    ∙ sym (ap (λ (us : List Term). all_compared p t (terms_of us)) (take_more xs i x h ∙ ap (λ (z : Term). take i xs ++ z ∷ []) (sym e))
-    ∙ ap (all_compared p t) (terms_of-append (take i xs) x) ∙ all_compared-with_last p t (terms_of (take i xs)) (term_of x))
+    ∙ sym (ap (λ (us : List Term). all_compared p t (bare_terms_of us))
+    (take_more xs i x h ∙ ap (λ (z : Term). take i xs ++ z ∷ []) (sym e))
+    ∙ ap (all_compared p t) (terms_of-append (take i xs) x) ∙ all_compared-with_last p t (bare_terms_of (take i xs)) (term_of x))
 
-pub argument_is : (xs : List Term) (i : ℕ) (x : Term) → i < length xs → x ≡ get_or xs i x → argument_at i (terms_of xs) ≡ Some (term_of x)
+pub argument_is : (xs : List Term) (i : ℕ) (x : Term) → i < length xs → x ≡ get_or xs i x
+    → argument_at i (bare_terms_of xs) ≡ Some (term_of x)
 argument_is [] i x h e = absurd (omega arith)
 argument_is (y ∷ ys) zero x h e = ap (λ (z : Term). Some (term_of z)) (sym e)
 argument_is (y ∷ ys) (suc i) x h e = argument_is ys i x (omega arith) e
 
-equal_lengths : (xs ys : List Term) → length xs ≡ length ys → same_length (terms_of xs) (terms_of ys) ≡ true
+equal_lengths : (xs ys : List Term) → length xs ≡ length ys → same_length (bare_terms_of xs) (bare_terms_of ys) ≡ true
 equal_lengths [] [] e = refl
 equal_lengths [] (y ∷ ys) e = absurd (omega (arith, e))
 equal_lengths (x ∷ xs) [] e = absurd (omega (arith, e))
 equal_lengths (x ∷ xs) (y ∷ ys) e = equal_lengths xs ys (omega (arith, e))
 
-unequal_lengths : (xs ys : List Term) → (length xs ≡ length ys → ⊥) → same_length (terms_of xs) (terms_of ys) ≡ false
+unequal_lengths : (xs ys : List Term) → (length xs ≡ length ys → ⊥) → same_length (bare_terms_of xs) (bare_terms_of ys) ≡ false
 unequal_lengths [] [] differ = absurd (differ refl)
 unequal_lengths [] (y ∷ ys) differ = refl
 unequal_lengths (x ∷ xs) [] differ = refl
 unequal_lengths (x ∷ xs) (y ∷ ys) differ = unequal_lengths xs ys (λ same. differ (ap (λ (k : ℕ). suc k) same))
 
-lengths_alike : (xs ys : List Term) → nat_eq (length xs) (length ys) ≡ same_length (terms_of xs) (terms_of ys)
+lengths_alike : (xs ys : List Term) → nat_eq (length xs) (length ys) ≡ same_length (bare_terms_of xs) (bare_terms_of ys)
 lengths_alike xs ys = go (nat_eq (length xs) (length ys)) refl
   where
-    go : (b : Bool) → nat_eq (length xs) (length ys) ≡ b → nat_eq (length xs) (length ys) ≡ same_length (terms_of xs) (terms_of ys)
+    go : (b : Bool) → nat_eq (length xs) (length ys) ≡ b → nat_eq (length xs) (length ys)
+        ≡ same_length (bare_terms_of xs) (bare_terms_of ys)
     go true e = e ∙ sym (equal_lengths xs ys ((Decides-eqb (length xs) (length ys)).0 e))
     go false e =
         e ∙ sym (unequal_lengths xs ys (λ same. let clash : true ≡ false = sym ((Decides-eqb (length xs) (length ys)).1 same) ∙ e in cc))
 
-pub alike : (f g : ℕ) (xs ys : List Term) → f ≡ g → nat_eq (length xs) (length ys) ≡ (nat_eq f g && same_length (terms_of xs) (terms_of ys))
+pub alike : (f g : ℕ) (xs ys : List Term) → f ≡ g → nat_eq (length xs) (length ys)
+    ≡ (nat_eq f g && same_length (bare_terms_of xs) (bare_terms_of ys))
 alike f g xs ys same =
-    lengths_alike xs ys ∙ sym (ap (λ (b : Bool). b && same_length (terms_of xs) (terms_of ys)) ((Decides-eqb f g).1 same))
+    lengths_alike xs ys ∙ sym (ap (λ (b : Bool). b && same_length (bare_terms_of xs) (bare_terms_of ys)) ((Decides-eqb f g).1 same))
 
 -- ---- What terms of the code stand for
 
@@ -111,14 +115,14 @@ term_of-Node f profile ts = ap bare (profiled_Node f profile ts)
 
 -- an operation whose arguments are these
 pub term_of_items : (t : Term) (f : ℕ) (profile : Rc Op Global) (arguments : ProfiledTerms) (items : List Term)
-    → t ≡ TermNode f profile arguments → all_profiled items ≡ arguments → term_of t ≡ node f (terms_of items)
+    → t ≡ TermNode f profile arguments → all_profiled items ≡ arguments → term_of t ≡ node f (bare_terms_of items)
 term_of_items t f profile arguments items is same = ap bare (node_with_items t f profile arguments items is same)
 
 -- ---- Whole tables
 
-pub over_leaf : (p : Precedence) (f : ℕ) (ts : Terms) (rows : List Table) (other : PlainTerm) (n s : ℕ) (r : Bool)
+pub over_leaf : (p : Precedence) (f : ℕ) (ts : Terms) (rows : List ComparisonTable) (other : PlainTerm) (n s : ℕ) (r : Bool)
     → other ≡ variable n s → rows ≡ each_compared p ts other → r ≡ some_reaches_in rows
-    → table_of (Leaf false r) ≡ compared p (node f ts) other
+    → compared_table_of (Leaf false r) ≡ compared p (node f ts) other
 over_leaf p f ts rows other n s r is rows_are r_is =
     table_of-Leaf false r
     ∙ ap (λ (b : Bool). table_leaf false b)
@@ -126,16 +130,16 @@ over_leaf p f ts rows other n s r is rows_are r_is =
     ∙ sym (ap (compared p (node f ts)) is)
 
 pub variable_node : (p : Precedence) (n s g : ℕ) (us : Terms) (cs : Vec Compared Global) (other : PlainTerm) → other ≡ node g us
-    → all_tables cs.items ≡ all_compared p (variable n s) us → table_of (Node false false cs) ≡ compared p (variable n s) other
+    → all_tables cs.items ≡ all_compared p (variable n s) us → compared_table_of (Node false false cs) ≡ compared p (variable n s) other
 variable_node p n s g us cs other is below =
-    table_of-Node false false cs ∙ ap (λ (ts : Tables). table_node false false ts) below ∙ sym (ap (compared p (variable n s)) is)
+    table_of-Node false false cs ∙ ap (λ (ts : ComparisonTables). table_node false false ts) below ∙ sym (ap (compared p (variable n s)) is)
 
-pub over_node : (p : Precedence) (f g : ℕ) (ts us : Terms) (cs : Vec Compared Global) (rows : List Table) (other : PlainTerm)
+pub over_node : (p : Precedence) (f g : ℕ) (ts us : Terms) (cs : Vec Compared Global) (rows : List ComparisonTable) (other : PlainTerm)
     (e gr same above : Bool) (status : Status) → other ≡ node g us → all_tables cs.items ≡ all_compared p (node f ts) us
     → rows ≡ each_compared p ts other → e ≡ (same && equals_in 0 rows)
     → gr ≡ (some_reaches_in rows || (exceeds_all_in (all_tables cs.items) && (above || (same && exceeds_from status rows))))
     → same ≡ (nat_eq f g && same_length ts us) → above ≡ nat_lt (p.rank g) (p.rank f) → status ≡ p.status f
-    → table_of (Node e gr cs) ≡ compared p (node f ts) other
+    → compared_table_of (Node e gr cs) ≡ compared p (node f ts) other
 over_node p f g ts us cs rows other e gr same above status is below rows_eq e_is gr_is same_is above_is status_is =
     let rows_are : rows ≡ each_compared p ts (node g us) = rows_eq ∙ ap (each_compared p ts) is in
     let equal : e ≡ term_eq (node f ts) (node g us) =

@@ -6,7 +6,7 @@ use Rattle.termination_theory.specs.Precedence.{Precedence}
 use Rattle.termination_theory.specs.OrderTest.{is_greater, node_exceeds, node_exceeds_all}
 use Rattle.termination_theory.specs.PathOrder.{IsGreater}
 use Rattle.termination_theory.proofs.OrderLemmas.{greater_asymmetric, greater_decided}
-use Rattle.path_order.specs.Heads.{below_head, all_below}
+use Rattle.path_order.specs.Heads.{below_head, all_terms_below}
 
 both_true : (a b c d : Bool) → (a && b) ≡ true → (a ≡ true → c ≡ true) → (b ≡ true → d ≡ true) → (c && d) ≡ true
 both_true true b c d e one two = go c (one refl)
@@ -30,15 +30,15 @@ mutual
       → below_head p f (node f ts) u ≡ true → node_exceeds p f ts reaches exceed u ≡ true
   below_exceeds p f ts reaches exceed (variable n s) e = e
   below_exceeds p f ts reaches exceed (node g us) e =
-      by_rank_true (nat_lt (p.rank g) (p.rank f)) (all_below p f (node f ts) us) (reaches (node g us))
+      by_rank_true (nat_lt (p.rank g) (p.rank f)) (all_terms_below p f (node f ts) us) (reaches (node g us))
       (node_exceeds_all p f ts reaches exceed us)
       (nat_eq f g && exceed us) e (λ h. all_below_exceed p f ts reaches exceed us h)
 
   all_below_exceed : (p : Precedence) (f : ℕ) (ts : Terms) (reaches : Term → Bool) (exceed : Terms → Bool) (us : Terms)
-      → all_below p f (node f ts) us ≡ true → node_exceeds_all p f ts reaches exceed us ≡ true
+      → all_terms_below p f (node f ts) us ≡ true → node_exceeds_all p f ts reaches exceed us ≡ true
   all_below_exceed p f ts reaches exceed no_terms e = refl
   all_below_exceed p f ts reaches exceed (term_then u us) e =
-      both_true (below_head p f (node f ts) u) (all_below p f (node f ts) us) (node_exceeds p f ts reaches exceed u)
+      both_true (below_head p f (node f ts) u) (all_terms_below p f (node f ts) us) (node_exceeds p f ts reaches exceed u)
       (node_exceeds_all p f ts reaches exceed us) e (λ h. below_exceeds p f ts reaches exceed u h)
       (λ h. all_below_exceed p f ts reaches exceed us h)
 

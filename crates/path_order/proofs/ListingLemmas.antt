@@ -12,12 +12,11 @@ use Rattle.termination_theory.specs.Precedence.{Status}
 use Rattle.sort_terms.specs.Operations.{operation_of}
 use Rattle.sort_terms.specs.SignatureView.{signature_of}
 use Rattle.sort_terms.specs.declared.signatures.Signature.{Signature as CodeSignature}
-use Rattle.path_order.specs.Contains.{IsOnce}
 use Rattle.path_order.specs.Listed.{IsListedBy, AreListedBy}
-use Rattle.path_order.specs.Listing.{AreListed, none_listed, listed_then, IsNumberIn, IsUnknown, IsTwice, IsFineItem, listed_name}
+use Rattle.path_order.specs.Listing.{AreListedByItems, none_listed, listed_then, IsNumberIn, IsUnknown, IsTwice, IsFineItem, listed_name}
 use Rattle.path_order.specs.Statuses.{HasBadStatus, status_written}
 use Rattle.path_order.specs.OrderFaultView.{IsOrderFault}
-use Rattle.path_order.specs.Steps.{HasCommon, IsItemFault, IsStatusFault}
+use Rattle.path_order.specs.Steps.{HasCommon, IsItemFault}
 use Rattle.path_order.specs.declared.order_fault.OrderFault.{OrderFault}
 use Rattle.path_order.specs.declared.order_fault.OrderFault.TheVariants.{UnknownOperation, TwiceListed, BadStatus, NoMemory}
 use Rattle.path_order.proofs.Numbers.{in_joined, first_joined, second_joined}
@@ -25,15 +24,17 @@ use Rattle.path_order.proofs.Numbers.{in_joined, first_joined, second_joined}
 -- ---- listings
 
 listed_last : {signature : Signature} {items : List ListedOperation} {listing : List ℕ} (item : ListedOperation) (fs : List ℕ)
-    → AreListed signature items listing → AreListedBy signature item fs → AreListed signature (items ++ item ∷ []) (listing ++ fs)
+    → AreListedByItems signature items listing → AreListedBy signature item fs
+    → AreListedByItems signature (items ++ item ∷ []) (listing ++ fs)
 listed_last {signature = signature} item fs none_listed by =
-    subst (λ (ns : List ℕ). AreListed signature (item ∷ []) ns) (append-nil fs) (listed_then by none_listed)
+    subst (λ (ns : List ℕ). AreListedByItems signature (item ∷ []) ns) (append-nil fs) (listed_then by none_listed)
 listed_last {signature = signature} item fs (listed_then {item = first} {items = items} {fs = gs} {rest = rest} one later) by =
-    subst (λ (ns : List ℕ). AreListed signature (first ∷ (items ++ item ∷ [])) ns) (sym (append_assoc gs rest fs))
+    subst (λ (ns : List ℕ). AreListedByItems signature (first ∷ (items ++ item ∷ [])) ns) (sym (append_assoc gs rest fs))
     (listed_then one (listed_last item fs later by))
 
 -- each operation there is listed by some item
-pub some_item : {signature : Signature} {items : List ListedOperation} {listing : List ℕ} → AreListed signature items listing → (f : ℕ)
+pub some_item : {signature : Signature} {items : List ListedOperation} {listing : List ℕ}
+    → AreListedByItems signature items listing → (f : ℕ)
     → IsNumberIn listing f
     → (k : ℕ) × (item : ListedOperation) × (slice_get items k ≡ Some item) × IsListedBy signature item f
 some_item none_listed f is = let none : None ≡ Some f = is.1 in cc
@@ -47,7 +48,8 @@ some_item {signature = signature} (listed_then {item = first} {items = items} {f
     go (inr there) below = let at = below there in (suc at.0, at.1, at.2, at.3)
 
 -- and each that an item lists is there
-pub is_there : {signature : Signature} {items : List ListedOperation} {listing : List ℕ} → AreListed signature items listing → (f k : ℕ)
+pub is_there : {signature : Signature} {items : List ListedOperation} {listing : List ℕ}
+    → AreListedByItems signature items listing → (f k : ℕ)
     (item : ListedOperation) → slice_get items k ≡ Some item → IsListedBy signature item f → IsNumberIn listing f
 is_there none_listed f k item at by = let none : None ≡ Some item = at in cc
 is_there {signature = signature} (listed_then {item = first} {fs = gs} {rest = rest} one later) f zero item at by =
@@ -58,14 +60,6 @@ is_there (listed_then {fs = gs} {rest = rest} one later) f (suc k) item at by =
     let found = is_there later f k item at by in (length gs + found.0, second_joined gs rest found.0 f found.1)
 
 -- ---- what an item lists
-
-pub falls_once : (signature : Signature) (item : ListedOperation) (fs : List ℕ) → AreListedBy signature item fs → IsOnce fs
-falls_once signature item fs by i j f one two = go (nat_lt i j) refl (nat_lt j i) refl
-  where
-    go : (b : Bool) → nat_lt i j ≡ b → (d : Bool) → nat_lt j i ≡ d → i ≡ j
-    go true e d h = let less : f < f = by.latest_first i j f f one two (ltb-true i j e) in absurd (omega (arith, less))
-    go false e true h = let less : f < f = by.latest_first j i f f two one (ltb-true j i h) in absurd (omega (arith, less))
-    go false e false h = let a : j ≤ i = ltb-false i j e in let b : i ≤ j = ltb-false j i h in omega (arith, a, b)
 
 pub listed_below : (signature : CodeSignature) (item : ListedOperation) (fs : List ℕ) (n j f : ℕ)
     → AreListedBy (signature_of signature) item fs → n ≡ length signature.ops.items → slice_get fs j ≡ Some f → f < n
@@ -99,16 +93,16 @@ at_so_far (x ∷ xs) (suc i) zero item before at = at
 at_so_far (x ∷ xs) (suc i) (suc k) item before at = at_so_far xs i k item (omega (arith, before)) at
 
 pub listed_more : (signature : Signature) (order : List OrderItem) (i : ℕ) (item : OrderItem) (old found new : List ℕ) → i < length order
-    → item ≡ get_or order i item → AreListed signature (map listed_operation_of (take i order)) old
+    → item ≡ get_or order i item → AreListedByItems signature (map listed_operation_of (take i order)) old
     → AreListedBy signature (listed_operation_of item) found → new ≡ old ++ found
-    → AreListed signature (map listed_operation_of (take (i + 1) order)) new
+    → AreListedByItems signature (map listed_operation_of (take (i + 1) order)) new
 listed_more signature order i item old found new within is so_far by added =
     let items : map listed_operation_of (take (i + 1) order)
     ≡ map listed_operation_of (take i order) ++ listed_operation_of item ∷ [] =
     ap (map listed_operation_of) (take_more order i item within ∙ ap (λ (o : OrderItem). take i order ++ o ∷ []) (sym is))
     ∙ map-append listed_operation_of (take i order) (item ∷ []) in
-    subst (λ (ns : List ℕ). AreListed signature (map listed_operation_of (take (i + 1) order)) ns) (sym added)
-    (subst (λ (is : List ListedOperation). AreListed signature is (old ++ found)) (sym items)
+    subst (λ (ns : List ℕ). AreListedByItems signature (map listed_operation_of (take (i + 1) order)) ns) (sym added)
+    (subst (λ (is : List ListedOperation). AreListedByItems signature is (old ++ found)) (sym items)
     (listed_last (listed_operation_of item) found so_far by))
 
 -- an item of which something was found lists an operation
@@ -119,7 +113,7 @@ known_found signature item (f ∷ fs) by some unknown = unknown f (by.listed 0 f
 
 -- and it lists none again where nothing of it was there already
 once_found : (signature : Signature) (order : List OrderItem) (i : ℕ) (item : ListedOperation) (old found : List ℕ)
-    → AreListed signature (map listed_operation_of (take i order)) old → AreListedBy signature item found
+    → AreListedByItems signature (map listed_operation_of (take i order)) old → AreListedBy signature item found
     → (HasCommon old found → ⊥) → IsTwice signature (map listed_operation_of order) i item → ⊥
 once_found signature order i item old found so_far by apart twice =
     apart (
@@ -131,7 +125,7 @@ once_found signature order i item old found so_far by apart twice =
 
 pub fine_more : (signature : Signature) (order : List OrderItem) (i : ℕ) (item : OrderItem) (old found : List ℕ) (status : Status)
     → i < length order
-    → item ≡ get_or order i item → AreListed signature (map listed_operation_of (take i order)) old
+    → item ≡ get_or order i item → AreListedByItems signature (map listed_operation_of (take i order)) old
     → AreListedBy signature (listed_operation_of item) found → (found ≡ [] → ⊥) → (HasCommon old found → ⊥)
     → status_written (listed_operation_of item).status ≡ Some status
     → ((k : ℕ) → k < i → IsFineItem signature (map listed_operation_of order) k)
@@ -156,20 +150,12 @@ fine_more signature order i item old found status within is so_far by some apart
               let none : None ≡ Some status = sym bad ∙ ap (λ (o : ListedOperation). status_written o.status) (sym this) ∙ writes in cc),
         )
 
--- what is wrong with the status of an item of which something was found that is new
-pub status_fault : (item : ListedOperation) (before found : List ℕ) (fault : OrderFault) → (found ≡ [] → ⊥)
-    → (HasCommon before found → ⊥) → IsStatusFault item fault → IsItemFault item before found fault
-status_fault item before found (UnknownOperation place name) some apart is = absurd is
-status_fault item before found (TwiceListed place name) some apart is = absurd is
-status_fault item before found (BadStatus place name) some apart is = (is.0, is.1, some, apart)
-status_fault item before found NoMemory some apart is = tt
-
 name_told : (item : ListedOperation) (place : Place) (name : List ℕ) → place ≡ item.place → name ≡ item.name
     → listed_name item ≡ Some (record { place = place; name = name })
 name_told item place name placed named = λ j. Some (record { place = sym placed j; name = sym named j })
 
 pub first_wrong : (signature : Signature) (order : List OrderItem) (i : ℕ) (item : OrderItem) (old found : List ℕ) (fault : OrderFault)
-    → i < length order → item ≡ get_or order i item → AreListed signature (map listed_operation_of (take i order)) old
+    → i < length order → item ≡ get_or order i item → AreListedByItems signature (map listed_operation_of (take i order)) old
     → AreListedBy signature (listed_operation_of item) found
     → ((k : ℕ) → k < i → IsFineItem signature (map listed_operation_of order) k)
     → IsItemFault (listed_operation_of item) old found fault → IsOrderFault signature (map listed_operation_of order) fault

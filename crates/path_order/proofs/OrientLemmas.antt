@@ -22,7 +22,7 @@ use Rattle.path_order.specs.declared.rule.Rule.{Rule}
 use Rattle.path_order.specs.declared.orient_fault.OrientFault.{OrientFault}
 use Rattle.path_order.specs.declared.orient_fault.OrientFault.TheVariants.{Unorientable, NoMemory}
 use Rattle.path_order.specs.Extension.{AddsRulesOf, IsEquationOf, StaysOver, Extends}
-use Rattle.path_order.specs.MadeRule.{numbered, sides}
+use Rattle.path_order.specs.MadeRule.{numbered_rule, sides}
 use Rattle.path_order.specs.OrientFaultView.{IsOrientFault, IsFaultAt}
 use Rattle.path_order.specs.RewritingEnd.{RewritingEndsBy}
 use Rattle.path_order.specs.RuleHead.{are_oriented}
@@ -38,9 +38,9 @@ no_rules p n equation rules same = record { rules = []; given = dropped same no_
 
 one_rule : (p : Precedence) (n : ℕ) (direction : Direction) (equation : PlainEquation) (old new : List NumberedRule)
     → equation.left ≢ equation.right → IsGreater p (old_side direction equation) (new_side direction equation)
-    → new ≡ old ++ numbered n (old_side direction equation) (new_side direction equation) ∷ [] → AddsRulesOf p n equation old new
+    → new ≡ old ++ numbered_rule n (old_side direction equation) (new_side direction equation) ∷ [] → AddsRulesOf p n equation old new
 one_rule p n direction equation old new differ greater is = record {
-  rules = numbered n (old_side direction equation) (new_side direction equation) ∷ [];
+  rules = numbered_rule n (old_side direction equation) (new_side direction equation) ∷ [];
   given = turned_next direction refl differ (turns p direction equation greater) no_more;
   joined = is;
 }
@@ -89,7 +89,7 @@ extends_by_none p n equation rules same =
 
 pub extends_forward : (p : Precedence) (n : ℕ) (equation : Equation) (old new : List Rule)
     → term_in equation.left ≢ term_in equation.right → IsGreater p (term_in equation.left) (term_in equation.right)
-    → numbered_rules new ≡ numbered_rules old ++ numbered n (term_in equation.left) (term_in equation.right) ∷ []
+    → numbered_rules new ≡ numbered_rules old ++ numbered_rule n (term_in equation.left) (term_in equation.right) ∷ []
     → all_sides new ≡ all_sides old ++ sides (profiled_in equation.left) (profiled_in equation.right) ∷ []
     → ExtendsBy p n equation old new
 extends_forward p n equation old new differ greater rules_are sides_are = record {
@@ -99,7 +99,7 @@ extends_forward p n equation old new differ greater rules_are sides_are = record
 
 pub extends_backward : (p : Precedence) (n : ℕ) (equation : Equation) (old new : List Rule)
     → term_in equation.left ≢ term_in equation.right → IsGreater p (term_in equation.right) (term_in equation.left)
-    → numbered_rules new ≡ numbered_rules old ++ numbered n (term_in equation.right) (term_in equation.left) ∷ []
+    → numbered_rules new ≡ numbered_rules old ++ numbered_rule n (term_in equation.right) (term_in equation.left) ∷ []
     → all_sides new ≡ all_sides old ++ sides (profiled_in equation.right) (profiled_in equation.left) ∷ []
     → ExtendsBy p n equation old new
 extends_backward p n equation old new differ greater rules_are sides_are = record {

@@ -1,8 +1,8 @@
 -- Ranks of operations, of which some are listed.
-use Rattle.std.proofs.Common.{◌≡◌, ◌≢◌, ℕ, ◌+◌, ◌-◌, ◌<◌, ◌≤◌, List, length, get_or, set, map, refl, ap, sym, ◌∙◌, subst, inl, inr, arith, Bool, true, false, ltb-true, ltb-false}
-use Rattle.std.specs.Prelude.{Some, slice_get, slice_index, ◌↔◌, nat_lt}
-use Rattle.std.proofs.lemmas.List.{get_or-set_same, get_or-set_other, length-set, length-map}
-use Rattle.std.proofs.lemmas.Option.{same_Some, slice_get_within}
+use Rattle.std.proofs.Common.{◌≡◌, ℕ, ◌-◌, ◌<◌, ◌≤◌, List, length, map, refl, ap, sym, ◌∙◌, subst, inl, inr, arith, Bool, true, false}
+use Rattle.std.specs.Prelude.{Some, slice_get, slice_index, ◌↔◌}
+use Rattle.std.proofs.lemmas.List.{length-map}
+use Rattle.std.proofs.lemmas.Option.{slice_get_within}
 use Rattle.path_order.specs.Contains.{contains, IsOnce}
 use Rattle.lotos_base.specs.WrittenView.{listed_operation_of}
 use Rattle.lotos_base.specs.declared.written_terms.OrderItem.{OrderItem}
@@ -10,51 +10,13 @@ use Rattle.sort_terms.specs.Operations.{operation_of}
 use Rattle.sort_terms.specs.SignatureView.{signature_of}
 use Rattle.sort_terms.specs.declared.operations.Op.{Op}
 use Rattle.sort_terms.specs.declared.signatures.Signature.{Signature as CodeSignature}
-use Rattle.path_order.specs.Listing.{AreListed, IsFineItem, IsNumberIn, IsAbove, AreRanksBy}
-use Rattle.path_order.proofs.Numbers.{contains_in, not_contains, member_at}
+use Rattle.path_order.specs.Listing.{AreListedByItems, IsFineItem, IsNumberIn, IsAbove, AreRanksBy}
+use Rattle.path_order.proofs.Numbers.{contains_in, not_contains}
 
 -- The first so many of the listed operations have their ranks, all others their numbers.
 pub record AreRanked (listing ranks : List ℕ) (i : ℕ) : Type 0 where
   pub listed : (k f : ℕ) → k < i → slice_get listing k ≡ Some f → slice_index ranks f ≡ 4294967295 - k
   pub others : (f : ℕ) → f < length ranks → ((k : ℕ) → k < i → slice_get listing k ≡ Some f → ⊥) → slice_index ranks f ≡ f
-
-pub none_ranked : (listing ranks : List ℕ) (count : ℕ) → length ranks ≡ count → ((f : ℕ) → f < count → slice_index ranks f ≡ f)
-    → AreRanked listing ranks 0
-none_ranked listing ranks count long own = record {
-  listed = λ k f before at. absurd (omega (arith, before));
-  others = λ f within none. own f (omega (arith, within, long));
-}
-
-pub ranked_more : (listing old new : List ℕ) (i x v : ℕ) → new ≡ set old x v → v ≡ 4294967295 - i → i < length listing
-    → x ≡ get_or listing i x → x < length old → IsOnce listing → AreRanked listing old i → AreRanked listing new (i + 1)
-ranked_more listing old new i x v is value within x_is inside once so_far =
-    subst (λ (ns : List ℕ). AreRanked listing ns (i + 1)) (sym is)
-    (record { listed = λ k f before at. now k f before at (nat_lt k i) refl; others = later })
-  where
-    here : slice_get listing i ≡ Some x
-    here = member_at listing i x within x_is
-
-    now : (k f : ℕ) → k < i + 1 → slice_get listing k ≡ Some f → (b : Bool) → nat_lt k i ≡ b
-        → slice_index (set old x v) f ≡ 4294967295 - k
-    now k f before at true e =
-        let less : k < i = ltb-true k i e in
-        let apart : f ≢ x = λ same.
-        let one : k ≡ i = once k i x (at ∙ ap (λ (n : ℕ). Some n) same) here in omega (arith, less, one) in
-        get_or-set_other old x f v 0 apart ∙ so_far.listed k f less at
-    now k f before at false e =
-        let past : i ≤ k = ltb-false k i e in
-        let same : k ≡ i = omega (arith, past, before) in
-        let is_x : f ≡ x = same_Some f x (sym at ∙ ap (λ (n : ℕ). slice_get listing n) same ∙ here) in
-        ap (λ (g : ℕ). slice_index (set old x v) g) is_x ∙ get_or-set_same old x v 0 inside ∙ value
-        ∙ ap (λ (n : ℕ). 4294967295 - n) (sym same)
-
-    later : (f : ℕ) → f < length (set old x v) → ((k : ℕ) → k < i + 1 → slice_get listing k ≡ Some f → ⊥)
-        → slice_index (set old x v) f ≡ f
-    later f in_new none =
-        let apart : f ≢ x = λ same. none i (omega arith) (here ∙ ap (λ (n : ℕ). Some n) (sym same)) in
-        let long = length-set old x v in
-        get_or-set_other old x f v 0 apart
-        ∙ so_far.others f (omega (arith, in_new, long)) (λ k before at. none k (omega (arith, before)) at)
 
 -- ---- ranks tell the order
 
@@ -111,7 +73,7 @@ ranks_tell listing ranks count f g few short listed others in_f in_g once =
 pub ranks_by : (signature : CodeSignature) (order : List OrderItem) (ops : List Op) (listing measured given ranks : List ℕ)
     → ops ≡ signature.ops.items → measured ≡ listing → given ≡ listing → length ops ≤ 2147483647 → length measured ≤ 2147483647
     → IsOnce listing
-    → AreListed (signature_of signature) (map listed_operation_of order) listing
+    → AreListedByItems (signature_of signature) (map listed_operation_of order) listing
     → ((k : ℕ) → IsFineItem (signature_of signature) (map listed_operation_of order) k)
     → ((j f : ℕ) → slice_get given j ≡ Some f → slice_index ranks f ≡ 4294967295 - j)
     → ((f : ℕ) → f < length ops → ¬ IsNumberIn given f → slice_index ranks f ≡ f)

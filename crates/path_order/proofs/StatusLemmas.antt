@@ -11,7 +11,7 @@ use Rattle.lotos_base.specs.Signature.{Signature}
 use Rattle.termination_theory.specs.Precedence.{Status as PlainStatus, from_left, from_right}
 use Rattle.path_order.specs.Contains.{contains}
 use Rattle.path_order.specs.Listed.{IsListedBy, AreListedBy}
-use Rattle.path_order.specs.Listing.{AreListed, IsNumberIn}
+use Rattle.path_order.specs.Listing.{AreListedByItems, IsNumberIn}
 use Rattle.path_order.specs.PrecedenceView.{status_of, status_by_number}
 use Rattle.path_order.specs.Statuses.{status_written, IsFromRight, AreStatusesBy}
 use Rattle.path_order.specs.Steps.{HasCommon, given_status}
@@ -87,7 +87,7 @@ no_statuses signature order statuses left f = (
 
 pub statuses_more : (signature : Signature) (order : List OrderItem) (i : ℕ) (item : OrderItem) (old found : List ℕ)
     (before after : List Status) (status : Status) → i < length order → item ≡ get_or order i item
-    → AreListed signature (map listed_operation_of (take i order)) old → AreListedBy signature (listed_operation_of item) found
+    → AreListedByItems signature (map listed_operation_of (take i order)) old → AreListedBy signature (listed_operation_of item) found
     → (HasCommon old found → ⊥) → ((j g : ℕ) → slice_get found j ≡ Some g → g < length before)
     → status_written (listed_operation_of item).status ≡ Some (status_of status) → after ≡ given_status before found status
     → AreStatusesSoFar signature order before i → AreStatusesSoFar signature order after (i + 1)

@@ -1,10 +1,8 @@
 -- Operations and the items that they suit.
-use Rattle.std.proofs.Common.{◌≡◌, ℕ, zero, suc, ◌+◌, ◌<◌, ◌≤◌, List, [], ◌∷◌, length, get_or, drop, map, refl, ap, sym, ◌∙◌, subst, arith, Bool, true, false, ltb, ltb-true, ltb-false}
+use Rattle.std.proofs.Common.{◌≡◌, ℕ, zero, suc, ◌<◌, ◌≤◌, List, [], ◌∷◌, length, get_or, drop, map, refl, ap, sym, ◌∙◌, arith, Bool, true, false, ltb, ltb-true, ltb-false}
 use Rattle.std.specs.Prelude.{◌↔◌, Some, slice_get, IsTrue}
-use Rattle.std.proofs.Math.ListN.{drop_of_length-le}
 use Rattle.std.proofs.lemmas.List.{length-map}
 use Rattle.std.proofs.lemmas.Option.{same_Some, slice_get_within}
-use Rattle.lotos_base.proofs.Pieces.{next_member}
 use Rattle.lotos_base.proofs.Members.{at_map}
 use Rattle.lotos_base.specs.Name.{spelling}
 use Rattle.lotos_base.specs.declared.names.Name.{Name}
@@ -12,7 +10,6 @@ use Rattle.lotos_base.specs.Names.{folded, AreOneName}
 use Rattle.lotos_base.specs.Signature.{Signature, Sort}
 use Rattle.sort_terms.specs.Operations.{sort_of}
 use Rattle.sort_terms.specs.declared.operations.Sort.{Sort as CodeSort}
-use Rattle.sort_terms.specs.Reading.{IsSortNamed}
 use Rattle.path_order.specs.Listed.{AreSortsNamed}
 
 -- the sort at the place has the name
@@ -22,25 +19,6 @@ IsNamedIn sorts i name = (s : Sort) × (slice_get sorts i ≡ Some s) × AreOneN
 -- the names of the sorts that are left
 abbrev pub AreLeftNamed : Signature → List ℕ → List Name → ℕ → Type 0
 AreLeftNamed signature sorts names i = AreSortsNamed signature (drop i sorts) (map spelling (drop i names))
-
-pub named_now : (signature : Signature) (sorts : List ℕ) (names : List Name) (i s : ℕ) (name : Name) → i < length sorts
-    → i < length names → s ≡ get_or sorts i s → name ≡ get_or names i name
-    → AreLeftNamed signature sorts names i ↔ (IsSortNamed signature s (spelling name) × AreLeftNamed signature sorts names (i + 1))
-named_now signature sorts names i s name in_sorts in_names s_is name_is =
-    let P = λ (ss : List ℕ) (ns : List Name). AreSortsNamed signature ss (map spelling ns) in
-    let one = next_member sorts i s in_sorts s_is in
-    let two = next_member names i name in_names name_is in (
-      (λ h. subst (λ (ns : List Name). P (s ∷ drop (i + 1) sorts) ns) two (subst (λ (ss : List ℕ). P ss (drop i names)) one h)),
-      (λ h. subst (λ (ss : List ℕ). P ss (drop i names)) (sym one)
-          (subst (λ (ns : List Name). P (s ∷ drop (i + 1) sorts) ns) (sym two) h)),
-    )
-
--- at the end
-pub named_all : (signature : Signature) (sorts : List ℕ) (names : List Name) (i : ℕ) → length sorts ≤ i → length names ≤ i
-    → AreLeftNamed signature sorts names i
-named_all signature sorts names i in_sorts in_names =
-    subst (λ (ss : List ℕ). AreSortsNamed signature ss (map spelling (drop i names))) (sym (drop_of_length-le sorts in_sorts))
-    (subst (λ (ns : List Name). AreSortsNamed signature [] (map spelling ns)) (sym (drop_of_length-le names in_names)) tt)
 
 pub lengths_named : (signature : Signature) (sorts : List ℕ) (names : List Name) → AreSortsNamed signature sorts (map spelling names)
     → length sorts ≡ length names

@@ -8,9 +8,9 @@ abbrev mutual
   -- whether the operation is above each one of the second term, whose variables all stand in the first one
   pub below_head : Precedence → ℕ → Term → Term → Bool
   below_head precedence f t (variable n s) = occurs n s t
-  below_head precedence f t (node g us) = nat_lt (precedence.rank g) (precedence.rank f) && all_below precedence f t us
+  below_head precedence f t (node g us) = nat_lt (precedence.rank g) (precedence.rank f) && all_terms_below precedence f t us
 
   -- the same of each term of a list
-  pub all_below : Precedence → ℕ → Term → Terms → Bool
-  all_below precedence f t no_terms = true
-  all_below precedence f t (term_then u us) = below_head precedence f t u && all_below precedence f t us
+  pub all_terms_below : Precedence → ℕ → Term → Terms → Bool
+  all_terms_below precedence f t no_terms = true
+  all_terms_below precedence f t (term_then u us) = below_head precedence f t u && all_terms_below precedence f t us

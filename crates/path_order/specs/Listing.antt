@@ -7,10 +7,10 @@ use Rattle.path_order.specs.Listed.{IsListedBy, AreListedBy}
 use Rattle.path_order.specs.Statuses.{HasBadStatus}
 
 -- The numbers are those that the items list, item by item.
-pub data AreListed (signature : Signature) : List ListedOperation → List ℕ → Type 0 where
-  none_listed : AreListed signature [] []
+pub data AreListedByItems (signature : Signature) : List ListedOperation → List ℕ → Type 0 where
+  none_listed : AreListedByItems signature [] []
   listed_then : {item : ListedOperation} {items : List ListedOperation} {fs rest : List ℕ}
-      → AreListedBy signature item fs → AreListed signature items rest → AreListed signature (item ∷ items) (fs ++ rest)
+      → AreListedBy signature item fs → AreListedByItems signature items rest → AreListedByItems signature (item ∷ items) (fs ++ rest)
 
 -- The number stands in the list.
 abbrev pub IsNumberIn : List ℕ → ℕ → Type 0
@@ -77,7 +77,7 @@ pub record IsFirstWrong (signature : Signature) (items : List ListedOperation) (
 -- The ranks order the operations of the signature as the items say, and nothing is wrong with an item.
 pub record AreRanksBy (signature : Signature) (items : List ListedOperation) (ranks : List ℕ) : Type 0 where
   pub listing : List ℕ
-  pub listed : AreListed signature items listing
+  pub listed : AreListedByItems signature items listing
   pub fine : (k : ℕ) → IsFineItem signature items k
   pub above : (f g : ℕ) → f < length signature.operations → g < length signature.operations
       → (slice_index ranks g < slice_index ranks f) ↔ IsAbove listing f g

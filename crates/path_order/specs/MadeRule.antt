@@ -6,8 +6,8 @@ use Rattle.termination_theory.specs.Orientation.{NumberedRule}
 use Rattle.path_order.specs.RuleSides.{Sides}
 
 -- the rule with these sides, from the equation with this number
-abbrev pub numbered : ℕ → Term → Term → NumberedRule
-numbered n l r = record { equation = n; rule = record { left = l; right = r } }
+abbrev pub numbered_rule : ℕ → Term → Term → NumberedRule
+numbered_rule n l r = record { equation = n; rule = record { left = l; right = r } }
 
 -- these sides
 abbrev pub sides : ProfiledTerm → ProfiledTerm → Sides

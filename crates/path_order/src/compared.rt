@@ -1,6 +1,6 @@
 //! Tables of what a term is to each subterm of another term.
 
-ghost use Rattle.path_order.specs.ComparedView.{table_of, tables_behind};
+ghost use Rattle.path_order.specs.ComparedView.{compared_table_of, tables_behind};
 ghost use Rattle.path_order.specs.Comparison.{
   equal_in,
   equal_there,
@@ -48,7 +48,7 @@ pub enum Compared {
 impl Compared {
     /// Whether the term is the whole other term.
     pub fn equal(&self) -> bool
-        ensures { result ≡ equal_in (table_of self.now) }
+        ensures { result ≡ equal_in (compared_table_of self.now) }
     {
         match self {
             Compared::Leaf { equal, .. } => *equal,
@@ -58,7 +58,7 @@ impl Compared {
 
     /// Whether the term is greater than the whole other term.
     pub fn greater(&self) -> bool
-        ensures { result ≡ greater_in (table_of self.now) }
+        ensures { result ≡ greater_in (compared_table_of self.now) }
     {
         match self {
             Compared::Leaf { greater, .. } => *greater,
@@ -68,7 +68,8 @@ impl Compared {
 
     /// The table over the argument at the position, if there is one.
     pub fn part(&self, position: usize) -> Option<&Compared>
-        ensures { option_map (λ c. table_of c.now) result ≡ part_in position (table_of self.now) }
+        ensures { option_map (λ c. compared_table_of c.now) result
+            ≡ part_in position (compared_table_of self.now) }
     {
         match self {
             Compared::Leaf { .. } => None,
@@ -174,8 +175,8 @@ fn exceeds_from_right(rows: &[&Compared]) -> bool
 // Whether up to this place the last one where they differ has the greater term, where this is told
 // of the places before.
 fn told_up_to(row: &Compared, position: usize, told: bool) -> bool
-    ensures { result ≡ (greater_there (part_in position (table_of row.now))
-        || (equal_there (part_in position (table_of row.now)) && told)) }
+    ensures { result ≡ (greater_there (part_in position (compared_table_of row.now))
+        || (equal_there (part_in position (compared_table_of row.now)) && told)) }
 {
     if greater_there(row, position) {
         return true;
@@ -189,7 +190,7 @@ fn told_up_to(row: &Compared, position: usize, told: bool) -> bool
 
 // Whether the table has an equal term at the position.
 fn equal_there(row: &Compared, position: usize) -> bool
-    ensures { result ≡ equal_there (part_in position (table_of row.now)) }
+    ensures { result ≡ equal_there (part_in position (compared_table_of row.now)) }
 {
     match row.part(position) {
         Some(part) => part.equal(),
@@ -199,7 +200,7 @@ fn equal_there(row: &Compared, position: usize) -> bool
 
 // Whether the table has a greater term at the position.
 fn greater_there(row: &Compared, position: usize) -> bool
-    ensures { result ≡ greater_there (part_in position (table_of row.now)) }
+    ensures { result ≡ greater_there (part_in position (compared_table_of row.now)) }
 {
     match row.part(position) {
         Some(part) => part.greater(),

@@ -1,6 +1,6 @@
 //! The path order, told by tables over pairs of subterms.
 
-ghost use Rattle.path_order.specs.ComparedView.{all_tables, table_of, tables_behind};
+ghost use Rattle.path_order.specs.ComparedView.{all_tables, compared_table_of, tables_behind};
 ghost use Rattle.path_order.specs.Comparison.{
   IsToldOf,
   all_compared,
@@ -13,7 +13,7 @@ ghost use Rattle.path_order.specs.Comparison.{
 };
 ghost use Rattle.path_order.specs.PrecedenceView.{precedence_of, status_of};
 ghost use Rattle.sort_terms.specs.SortedView.{term_in};
-ghost use Rattle.sort_terms.specs.TermView.{term_of, terms_of};
+ghost use Rattle.sort_terms.specs.TermView.{term_of, bare_terms_of};
 ghost use Rattle.std.specs.Prelude.{◌≡◌, ◌↔◌, ◌&&◌, ◌||◌, IfOk, IsTrue, map, nat_eq, nat_lt};
 ghost use Rattle.lotos_base.specs.Term.{node, variable};
 ghost use Rattle.lotos_base.specs.Tests.{term_eq};
@@ -73,7 +73,7 @@ fn compare(
     other: &Term,
 ) -> Result<Compared, NoMemory>
     ensures { IfOk result
-        (λ c. table_of c
+        (λ c. compared_table_of c
         ≡ compared (precedence_of precedence.now) (term_of term.now) (term_of other.now)) }
 {
     match term {
@@ -101,8 +101,8 @@ fn compare_each(
     terms: &Vec<Term>,
     other: &Term,
 ) -> Result<Vec<Compared>, NoMemory>
-    ensures { IfOk result (λ made. map table_of made.items
-        ≡ each_compared (precedence_of precedence.now) (terms_of terms.now.items)
+    ensures { IfOk result (λ made. map compared_table_of made.items
+        ≡ each_compared (precedence_of precedence.now) (bare_terms_of terms.now.items)
         (term_of other.now)) }
 {
     let mut made = Vec::with_capacity(alloc, terms.len())?;
@@ -114,7 +114,8 @@ fn compare_each(
 
 // References to the tables.
 fn references(alloc: Global, tables: &Vec<Compared>) -> Result<Vec<&Compared>, NoMemory>
-    ensures { IfOk result (λ rows. tables_behind rows.items ≡ map table_of tables.now.items) }
+    ensures { IfOk result (λ rows. tables_behind rows.items
+        ≡ map compared_table_of tables.now.items) }
 {
     let mut rows = Vec::with_capacity(alloc, tables.len())?;
     for table in tables {
@@ -134,9 +135,9 @@ fn over(
     other: &Term,
 ) -> Result<Compared, NoMemory>
     ensures { IfOk result (λ c. IsToldOf (precedence_of precedence.now)
-        (terms_of arguments.now.items) (term_of other.now) (tables_behind rows.now)
-        → table_of c ≡ compared (precedence_of precedence.now)
-        (node op (terms_of arguments.now.items)) (term_of other.now)) }
+        (bare_terms_of arguments.now.items) (term_of other.now) (tables_behind rows.now)
+        → compared_table_of c ≡ compared (precedence_of precedence.now)
+        (node op (bare_terms_of arguments.now.items)) (term_of other.now)) }
 {
     let Term::Node {
         op: g,
@@ -181,7 +182,7 @@ fn over_variable(
     sort: u32,
     other: &Term,
 ) -> Result<Compared, NoMemory>
-    ensures { IfOk result (λ c. table_of c
+    ensures { IfOk result (λ c. compared_table_of c
         ≡ compared (precedence_of precedence.now) (variable number sort) (term_of other.now)) }
 {
     let Term::Node { arguments, .. } = other else {
@@ -220,7 +221,7 @@ fn is_variable(term: &Term, number: u64, sort: u32) -> bool
 // Whether the operations are one and the lists have one length.
 fn are_alike(op: u32, other: u32, arguments: &Vec<Term>, others: &Vec<Term>) -> bool
     ensures { result ≡ (nat_eq op other
-        && same_length (terms_of arguments.now.items) (terms_of others.now.items)) }
+        && same_length (bare_terms_of arguments.now.items) (bare_terms_of others.now.items)) }
 {
     if op != other {
         return false;

@@ -1,8 +1,8 @@
 //! The path order where the operations at the heads decide it, told without a table.
 
-ghost use Rattle.path_order.specs.Heads.{all_below, below_head};
+ghost use Rattle.path_order.specs.Heads.{all_terms_below, below_head};
 ghost use Rattle.path_order.specs.PrecedenceView.{precedence_of};
-ghost use Rattle.sort_terms.specs.TermView.{term_of, terms_of};
+ghost use Rattle.sort_terms.specs.TermView.{term_of, bare_terms_of};
 ghost use Rattle.std.specs.Prelude.{◌≡◌, IsTrue};
 ghost use Rattle.termination_theory.specs.PathOrder.{IsGreater};
 
@@ -47,8 +47,8 @@ fn is_below(precedence: &Precedence, op: u32, term: &Term, whole: &Term) -> bool
 // The same of each term of a list.
 #[cycle(below)]
 fn are_below(precedence: &Precedence, op: u32, terms: &Vec<Term>, whole: &Term) -> bool
-    ensures { result ≡ all_below (precedence_of precedence.now) op
-        (term_of whole.now) (terms_of terms.now.items) }
+    ensures { result ≡ all_terms_below (precedence_of precedence.now) op
+        (term_of whole.now) (bare_terms_of terms.now.items) }
 {
     for term in terms {
         if !is_below(precedence, op, term, whole) {

@@ -2,7 +2,7 @@
 
 ghost use Rattle.lotos_base.specs.WrittenView.{listed_operation_of};
 ghost use Rattle.path_order.specs.Contains.{IsOnce, contains};
-ghost use Rattle.path_order.specs.Listing.{AreListed, IsFineItem};
+ghost use Rattle.path_order.specs.Listing.{AreListedByItems, IsFineItem};
 ghost use Rattle.path_order.specs.OrderFaultView.{IsOrderFault};
 ghost use Rattle.path_order.specs.PrecedenceView.{status_by_number, status_of};
 ghost use Rattle.path_order.specs.Statuses.{AreStatusesBy, status_written};
@@ -32,7 +32,7 @@ pub fn listing(
     order: &[OrderItem],
 ) -> Result<Listing, OrderFault>
     ensures listed { MatchResult result
-        (λ made. AreListed (signature_of signature.now) (map listed_operation_of order.now)
+        (λ made. AreListedByItems (signature_of signature.now) (map listed_operation_of order.now)
         made.order.items)
         (λ fault. IsOrderFault (signature_of signature.now) (map listed_operation_of order.now)
         fault) }

@@ -3,7 +3,7 @@
 ghost use Rattle.path_order.specs.RuleView.{numbered_rule_of, numbered_rules};
 ghost use Rattle.std.specs.Prelude.{◌≡◌, ◌∷◌, ◌++◌, [], IfOk};
 ghost use Rattle.path_order.specs.RuleSides.{all_sides, sides_of};
-ghost use Rattle.path_order.specs.MadeRule.{numbered, sides};
+ghost use Rattle.path_order.specs.MadeRule.{numbered_rule, sides};
 ghost use Rattle.sort_terms.specs.SortedView.{profiled_in, term_in};
 
 use lotos_base::NoMemory;
@@ -55,7 +55,7 @@ pub fn with_rule(
     right: &Sorted,
 ) -> Result<Vec<Rule>, NoMemory>
     ensures rules { IfOk result (λ more. numbered_rules more.items ≡ numbered_rules rules.items
-        ++ numbered equation (term_in left.now) (term_in right.now) ∷ []) }
+        ++ numbered_rule equation (term_in left.now) (term_in right.now) ∷ []) }
     ensures sides { IfOk result (λ more. all_sides more.items ≡ all_sides rules.items
         ++ sides (profiled_in left.now) (profiled_in right.now) ∷ []) }
 {

@@ -1,15 +1,12 @@
 -- The moves that a rule makes, one by one.
 use Rattle.std.proofs.Common.{◌≡◌, ℕ, ◌+◌, ◌<◌, List, [], ◌∷◌, ◌++◌, length, get_or, take, map, refl, ap, sym, ◌∙◌, Option, None, Some, option_map}
 use Rattle.std.specs.Prelude.{filter_map, option_to_list}
-use Rattle.std.proofs.lemmas.List.{append-nil, map-append, take_more}
+use Rattle.std.proofs.lemmas.List.{append-nil, map-append}
 use Rattle.std.proofs.lemmas.List.Elements.{filter_map-append}
+use Rattle.lotos_base.proofs.Pieces.{take_member}
 use Rattle.behaviour_semantics.specs.Listing.{ShapedMove}
 use Rattle.plain_moves.specs.MoveView.{shaped_of}
 use Rattle.plain_moves.specs.declared.rule.PlainMove.{PlainMove}
-
--- one item more
-pub take_item : {X : Type 0} (xs : List X) (i : ℕ) (x : X) → i < length xs → x ≡ get_or xs i x → take (i + 1) xs ≡ take i xs ++ x ∷ []
-take_item {X} xs i x h e = take_more xs i x h ∙ ap (λ (y : X). take i xs ++ y ∷ []) (sym e)
 
 one_taken : (f : ShapedMove → Option ShapedMove) (x : ShapedMove) (o : Option ShapedMove) → o ≡ f x
     → filter_map f (x ∷ []) ≡ option_to_list o
@@ -32,7 +29,7 @@ next_taken f xs made i x o h e so_far applied =
     ∙ ap (λ ys. filter_map f (map shaped_of (take i xs)) ++ ys) (sym (one_taken f (shaped_of x) (option_map shaped_of o) applied))
     ∙ sym (filter_map-append f (map shaped_of (take i xs)) (shaped_of x ∷ []))
     ∙ ap (filter_map f) (sym (map-append shaped_of (take i xs) (x ∷ [])))
-    ∙ ap (λ (ys : List PlainMove). filter_map f (map shaped_of ys)) (sym (take_item xs i x h e))
+    ∙ ap (λ (ys : List PlainMove). filter_map f (map shaped_of ys)) (sym (take_member xs i x h e))
 
 -- the list after a move that was made, and after none
 pub pushed : (new made : List PlainMove) (o : Option PlainMove) (y : PlainMove) → o ≡ Some y → new ≡ made ++ y ∷ []

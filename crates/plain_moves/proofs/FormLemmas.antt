@@ -10,7 +10,7 @@ use Rattle.behaviour_semantics.specs.Listing.{ShapedMove, one_behind, each_below
 use Rattle.behaviour_semantics.specs.Move.{Setting, alone, hiding, opened, relabelling}
 use Rattle.behaviour_semantics.specs.Replacement.{binding_of}
 use Rattle.behaviour_semantics.specs.Shape.{act, left_side, right_side, hidden, called, relabelled}
-use Rattle.plain_moves.specs.Listed.{IsPlainListing, IsListedByForm, process_of}
+use Rattle.plain_moves.specs.Listed.{IsPlainListing, IsListedByForm, process_without_values}
 use Rattle.plain_moves.specs.View.{without_values}
 use Rattle.plain_moves.specs.declared.behaviour.PlainBehaviour.{PlainBehaviour}
 use Rattle.plain_moves.specs.declared.listing.PlainProcess.{PlainProcess}
@@ -81,7 +81,7 @@ parallel_listed processes depth meet b c used_left used_right lefts rights moves
 
 pub call_listed : (processes : List Process) (depth number : ℕ) (gates : List ℕ) (process : PlainProcess) (used : Relabelling)
     (parts moves : Option (List ShapedMove)) →
-    slice_get processes number ≡ Some (process_of process) → used ≡ zip process.gates.items gates
+    slice_get processes number ≡ Some (process_without_values process) → used ≡ zip process.gates.items gates
     → IsPlainListing processes depth (without_values process.body.value) parts →
     moves ≡ option_map (filter_map (below called (λ m. Some (relabelling used m)))) parts →
     IsListedByForm processes depth (plain.call number gates []) moves

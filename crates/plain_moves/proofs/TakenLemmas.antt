@@ -10,7 +10,7 @@ use Rattle.behaviour_semantics.specs.Rule.{moves_alone, move_together, label_val
 use Rattle.behaviour_semantics.specs.Shape.{Shape}
 use Rattle.plain_moves.specs.MoveView.{shaped_of}
 use Rattle.plain_moves.specs.Taken.{taken_of}
-use Rattle.plain_moves.specs.View.{label_of, meet_of}
+use Rattle.plain_moves.specs.View.{plain_label_of, plain_meet_of}
 use Rattle.plain_moves.specs.declared.label.PlainLabel.{PlainLabel}
 use Rattle.plain_moves.specs.declared.label.PlainLabel.TheVariants as label
 use Rattle.plain_moves.specs.declared.rule.PlainMove.{PlainMove}
@@ -27,21 +27,23 @@ chosen true shape m asked sorts = (asked, sorts)
 chosen false shape m asked sorts = tt
 
 -- a label without values
-no_values : (l : PlainLabel) → label_values (label_of l) ≡ []
+no_values : (l : PlainLabel) → label_values (plain_label_of l) ≡ []
 no_values label.Inner = refl
 no_values (label.Gate gate) = refl
 no_values label.Exit = refl
 
-no_equations : (l r : PlainLabel) → pairwise (label_values (label_of l)) (label_values (label_of r)) ≡ []
-no_equations l r = let none : label_values (label_of l) ≡ [] = no_values l in rw none refl
+no_equations : (l r : PlainLabel) → pairwise (label_values (plain_label_of l)) (label_values (plain_label_of r)) ≡ []
+no_equations l r = let none : label_values (plain_label_of l) ≡ [] = no_values l in rw none refl
 
 pub taken_asks_nothing : (signature : Signature) (r : Rule) (part : PlainMove) → AsksNothing (taken_of signature r (shaped_of part))
 taken_asks_nothing signature rule.LeftSide part = (refl, refl)
 taken_asks_nothing signature rule.RightSide part = (refl, refl)
-taken_asks_nothing signature (rule.LeftAlone meet right) part = chosen (moves_alone (meet_of meet.now) (label_of part.label)) _ _ refl refl
-taken_asks_nothing signature (rule.RightAlone meet left) part = chosen (moves_alone (meet_of meet.now) (label_of part.label)) _ _ refl refl
+taken_asks_nothing signature (rule.LeftAlone meet right) part =
+    chosen (moves_alone (plain_meet_of meet.now) (plain_label_of part.label)) _ _ refl refl
+taken_asks_nothing signature (rule.RightAlone meet left) part =
+    chosen (moves_alone (plain_meet_of meet.now) (plain_label_of part.label)) _ _ refl refl
 taken_asks_nothing signature (rule.BothWith meet left) part =
-    chosen (move_together signature (meet_of meet.now) (label_of left.now.label) (label_of part.label)) _ _
+    chosen (move_together signature (plain_meet_of meet.now) (plain_label_of left.now.label) (plain_label_of part.label)) _ _
     (no_equations left.now.label part.label) refl
 taken_asks_nothing signature (rule.Hiding gates) part = (refl, refl)
 taken_asks_nothing signature (rule.Enabling right) part = enabled_asks_nothing part.label

@@ -10,8 +10,8 @@ use Rattle.plain_moves.specs.View.{without_values}
 use Rattle.plain_moves.specs.declared.listing.PlainProcess.{PlainProcess}
 
 -- a process without values
-abbrev pub process_of : PlainProcess → Process
-process_of p = record { name = []; gates = p.gates.items; parameters = []; exit = None; body = without_values p.body.value }
+abbrev pub process_without_values : PlainProcess → Process
+process_without_values p = record { name = []; gates = p.gates.items; parameters = []; exit = None; body = without_values p.body.value }
 
 -- whatever signature, form of values and leaves: no value occurs
 abbrev pub IsPlainListing : List Process → ℕ → Behaviour → Option (List ShapedMove) → Type 0

@@ -6,7 +6,7 @@ use Rattle.behaviour_semantics.specs.Listing.{ShapedMove, below, below_enable}
 use Rattle.behaviour_semantics.specs.Move.{alone, together, hiding, disabling, relabelling}
 use Rattle.behaviour_semantics.specs.Shape.{left_side, right_side, both_sides, hidden, at_gate, called, relabelled}
 use Rattle.plain_moves.specs.MoveView.{shaped_of}
-use Rattle.plain_moves.specs.View.{without_values, meet_of}
+use Rattle.plain_moves.specs.View.{without_values, plain_meet_of}
 use Rattle.plain_moves.specs.declared.rule.Rule.{Rule}
 use Rattle.plain_moves.specs.declared.rule.Rule.TheVariants as rule
 
@@ -14,11 +14,11 @@ abbrev pub taken_of : Signature → Rule → ShapedMove → Option ShapedMove
 taken_of signature rule.LeftSide = below left_side (λ m. Some m)
 taken_of signature rule.RightSide = below right_side (λ m. Some m)
 taken_of signature (rule.LeftAlone meet right) =
-    below left_side (alone (meet_of meet.now) (λ target. parallel (meet_of meet.now) target (without_values right.now.value)))
+    below left_side (alone (plain_meet_of meet.now) (λ target. parallel (plain_meet_of meet.now) target (without_values right.now.value)))
 taken_of signature (rule.RightAlone meet left) =
-    below right_side (alone (meet_of meet.now) (λ target. parallel (meet_of meet.now) (without_values left.now.value) target))
+    below right_side (alone (plain_meet_of meet.now) (λ target. parallel (plain_meet_of meet.now) (without_values left.now.value) target))
 taken_of signature (rule.BothWith meet left) =
-    below (both_sides (shaped_of left.now).shape) (together signature (meet_of meet.now) (shaped_of left.now).move)
+    below (both_sides (shaped_of left.now).shape) (together signature (plain_meet_of meet.now) (shaped_of left.now).move)
 taken_of signature (rule.Hiding gates) = below hidden (λ m. Some (hiding gates.now m))
 taken_of signature (rule.Enabling right) = below_enable signature [] (without_values right.now.value)
 taken_of signature (rule.Disabling right) = below left_side (λ m. Some (disabling (without_values right.now.value) m))

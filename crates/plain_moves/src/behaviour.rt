@@ -2,7 +2,7 @@
 
 ghost use Rattle.std.specs.Prelude.{◌≡◌, IfOk};
 ghost use Rattle.behaviour_semantics.specs.Behaviour as plain;
-ghost use Rattle.plain_moves.specs.View.{meet_of, without_values};
+ghost use Rattle.plain_moves.specs.View.{plain_meet_of, without_values};
 
 use std::alloc::{AllocError, Global};
 use std::rc::Rc;
@@ -21,7 +21,7 @@ pub enum PlainMeet {
 impl PlainMeet {
     /// The same gates.
     pub fn copy(&self, alloc: Global) -> Result<PlainMeet, AllocError>
-        ensures { IfOk result (λ copy. meet_of copy ≡ meet_of self.now) }
+        ensures { IfOk result (λ copy. plain_meet_of copy ≡ plain_meet_of self.now) }
     {
         match self {
             PlainMeet::Nothing => Ok(PlainMeet::Nothing),
@@ -77,7 +77,7 @@ pub fn parallel(
     right: Rc<PlainBehaviour>,
 ) -> Result<Rc<PlainBehaviour>, AllocError>
     ensures { IfOk result (λ made. without_values made.value
-        ≡ plain.parallel (meet_of meet.now) (without_values left.value)
+        ≡ plain.parallel (plain_meet_of meet.now) (without_values left.value)
         (without_values right.value)) }
 {
     shared(

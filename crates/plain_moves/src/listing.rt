@@ -3,8 +3,8 @@
 ghost use Rattle.std.specs.Prelude.{◌≡◌, [], IfOk, map};
 ghost use Rattle.behaviour_semantics.specs.Behaviour as plain;
 ghost use Rattle.behaviour_semantics.specs.Move as table;
-ghost use Rattle.plain_moves.specs.Listed.{IsPlainListing, IsListedByForm, process_of};
-ghost use Rattle.plain_moves.specs.MoveView.{list_of};
+ghost use Rattle.plain_moves.specs.Listed.{IsPlainListing, IsListedByForm, process_without_values};
+ghost use Rattle.plain_moves.specs.MoveView.{move_list_of};
 ghost use Rattle.plain_moves.specs.View.{without_values};
 
 use crate::behaviour::{PlainBehaviour, shared};
@@ -33,8 +33,9 @@ pub fn moves(
     body: &Rc<PlainBehaviour>,
 ) -> Result<Option<Vec<PlainMove>>, AllocError>
     ensures { IfOk result
-        (λ o. IsPlainListing (map process_of processes.now) depth (without_values body.now.value)
-        (list_of o)) }
+        (λ o. IsPlainListing (map process_without_values processes.now) depth
+        (without_values body.now.value)
+        (move_list_of o)) }
 {
     if depth == 0 {
         return Ok(None);
@@ -63,8 +64,9 @@ fn by_form(
     body: &PlainBehaviour,
 ) -> Result<Option<Vec<PlainMove>>, AllocError>
     ensures { IfOk result
-        (λ o. IsListedByForm (map process_of processes.now) depth (without_values body.now)
-        (list_of o)) }
+        (λ o. IsListedByForm (map process_without_values processes.now) depth
+        (without_values body.now)
+        (move_list_of o)) }
 {
     match body {
         PlainBehaviour::Stop | PlainBehaviour::ParGate(..) => Ok(Some(Vec::new(alloc))),
@@ -134,8 +136,8 @@ fn called(
     process: u32,
     gates: &[u32],
 ) -> Result<Option<Vec<PlainMove>>, AllocError>
-    ensures { IfOk result (λ o. IsListedByForm (map process_of processes.now) depth
-        (plain.call process gates.now []) (list_of o)) }
+    ensures { IfOk result (λ o. IsListedByForm (map process_without_values processes.now) depth
+        (plain.call process gates.now []) (move_list_of o)) }
 {
     let Some(called) = processes.get(process as usize) else {
         return Ok(Some(Vec::new(alloc)));

@@ -6,9 +6,9 @@ ghost use Rattle.behaviour_semantics.specs.Listing as listing;
 ghost use Rattle.behaviour_semantics.specs.Move as table;
 ghost use Rattle.behaviour_semantics.specs.Shape as shapes;
 ghost use Rattle.lotos_base.specs.Signature.{Signature};
-ghost use Rattle.plain_moves.specs.MoveView.{list_of, shaped_of};
+ghost use Rattle.plain_moves.specs.MoveView.{move_list_of, shaped_of};
 ghost use Rattle.plain_moves.specs.Taken.{taken_of};
-ghost use Rattle.plain_moves.specs.View.{without_values, label_of, meet_of, shape_of};
+ghost use Rattle.plain_moves.specs.View.{without_values, plain_label_of, plain_meet_of, plain_shape_of};
 
 use crate::behaviour::{PlainBehaviour, PlainMeet};
 use crate::label::PlainLabel;
@@ -24,10 +24,10 @@ pub fn single(
     label: PlainLabel,
     target: Rc<PlainBehaviour>,
 ) -> Result<Option<Vec<PlainMove>>, AllocError>
-    ensures { IfOk result (λ o. list_of o ≡ Some (record {
-      shape = shape_of shape;
+    ensures { IfOk result (λ o. move_list_of o ≡ Some (record {
+      shape = plain_shape_of shape;
       move = record {
-        label = label_of label;
+        label = plain_label_of label;
         target = without_values target.value;
         asked = [];
         sorts = [];
@@ -51,7 +51,8 @@ pub fn each_of(
     moves: &Option<Vec<PlainMove>>,
 ) -> Result<Option<Vec<PlainMove>>, AllocError>
     ensures { IfOk result (λ o. (signature : Signature)
-        → list_of o ≡ option_map (filter_map (taken_of signature rule.now)) (list_of moves.now)) }
+        → move_list_of o ≡ option_map (filter_map (taken_of signature rule.now))
+        (move_list_of moves.now)) }
 {
     match moves {
         Some(moves) => Ok(Some(each(alloc, rule, moves)?)),
@@ -64,7 +65,8 @@ pub fn one_behind(
     first: Option<Vec<PlainMove>>,
     second: Option<Vec<PlainMove>>,
 ) -> Result<Option<Vec<PlainMove>>, AllocError>
-    ensures { IfOk result (λ o. list_of o ≡ listing.one_behind (list_of first) (list_of second)) }
+    ensures { IfOk result (λ o. move_list_of o
+        ≡ listing.one_behind (move_list_of first) (move_list_of second)) }
 {
     match (first, second) {
         (Some(mut moves), Some(mut others)) => {
@@ -81,9 +83,9 @@ pub fn in_choice(
     lefts: &Option<Vec<PlainMove>>,
     rights: &Option<Vec<PlainMove>>,
 ) -> Result<Option<Vec<PlainMove>>, AllocError>
-    ensures { IfOk result (λ o. list_of o ≡ listing.one_behind
-        (listing.each_below shapes.left_side (λ m. Some m) (list_of lefts.now))
-        (listing.each_below shapes.right_side (λ m. Some m) (list_of rights.now))) }
+    ensures { IfOk result (λ o. move_list_of o ≡ listing.one_behind
+        (listing.each_below shapes.left_side (λ m. Some m) (move_list_of lefts.now))
+        (listing.each_below shapes.right_side (λ m. Some m) (move_list_of rights.now))) }
 {
     let first = each_of(alloc, &Rule::LeftSide, lefts)?;
     let second = each_of(alloc, &Rule::RightSide, rights)?;
@@ -97,10 +99,10 @@ pub fn in_disable(
     lefts: &Option<Vec<PlainMove>>,
     rights: &Option<Vec<PlainMove>>,
 ) -> Result<Option<Vec<PlainMove>>, AllocError>
-    ensures { IfOk result (λ o. list_of o ≡ listing.one_behind
+    ensures { IfOk result (λ o. move_list_of o ≡ listing.one_behind
         (listing.each_below shapes.left_side
-        (λ m. Some (table.disabling (without_values right.now.value) m)) (list_of lefts.now))
-        (listing.each_below shapes.right_side (λ m. Some m) (list_of rights.now))) }
+        (λ m. Some (table.disabling (without_values right.now.value) m)) (move_list_of lefts.now))
+        (listing.each_below shapes.right_side (λ m. Some m) (move_list_of rights.now))) }
 {
     let first = each_of(alloc, &Rule::Disabling(right), lefts)?;
     let second = each_of(alloc, &Rule::RightSide, rights)?;
@@ -116,17 +118,18 @@ pub fn in_parallel(
     lefts: &Option<Vec<PlainMove>>,
     rights: &Option<Vec<PlainMove>>,
 ) -> Result<Option<Vec<PlainMove>>, AllocError>
-    ensures { IfOk result (λ o. (signature : Signature) (next : ℕ) → list_of o ≡ listing.one_behind
-        (listing.each_below shapes.left_side (table.alone (meet_of meet.now)
-        (λ target. plain.parallel (meet_of meet.now) target (without_values right.now.value)))
-        (list_of lefts.now))
+    ensures { IfOk result (λ o. (signature : Signature) (next : ℕ) → move_list_of o
+        ≡ listing.one_behind
+        (listing.each_below shapes.left_side (table.alone (plain_meet_of meet.now)
+        (λ target. plain.parallel (plain_meet_of meet.now) target (without_values right.now.value)))
+        (move_list_of lefts.now))
         (listing.one_behind
-        (listing.each_below shapes.right_side (table.alone (meet_of meet.now)
-        (λ target. plain.parallel (meet_of meet.now) (without_values left.now.value) target))
-        (list_of rights.now))
-        (option_and_then (listing.both_below signature (meet_of meet.now) next
-        (λ k. list_of rights.now))
-        (list_of lefts.now)))) }
+        (listing.each_below shapes.right_side (table.alone (plain_meet_of meet.now)
+        (λ target. plain.parallel (plain_meet_of meet.now) (without_values left.now.value) target))
+        (move_list_of rights.now))
+        (option_and_then (listing.both_below signature (plain_meet_of meet.now) next
+        (λ k. move_list_of rights.now))
+        (move_list_of lefts.now)))) }
 {
     let first = each_of(alloc, &Rule::LeftAlone(meet, right), lefts)?;
     let second = each_of(alloc, &Rule::RightAlone(meet, left), rights)?;
@@ -141,10 +144,10 @@ pub fn both_of(
     lefts: &Option<Vec<PlainMove>>,
     rights: &Option<Vec<PlainMove>>,
 ) -> Result<Option<Vec<PlainMove>>, AllocError>
-    ensures { IfOk result (λ o. (signature : Signature) (next : ℕ) → list_of o
-        ≡ option_and_then (listing.both_below signature (meet_of meet.now) next
-        (λ k. list_of rights.now))
-        (list_of lefts.now)) }
+    ensures { IfOk result (λ o. (signature : Signature) (next : ℕ) → move_list_of o
+        ≡ option_and_then (listing.both_below signature (plain_meet_of meet.now) next
+        (λ k. move_list_of rights.now))
+        (move_list_of lefts.now)) }
 {
     match lefts {
         Some(lefts) => both(alloc, meet, lefts, rights),
@@ -159,8 +162,8 @@ pub fn both(
     lefts: &[PlainMove],
     rights: &Option<Vec<PlainMove>>,
 ) -> Result<Option<Vec<PlainMove>>, AllocError>
-    ensures { IfOk result (λ o. (signature : Signature) (next : ℕ) → list_of o
-        ≡ listing.both_below signature (meet_of meet.now) next (λ k. list_of rights.now)
+    ensures { IfOk result (λ o. (signature : Signature) (next : ℕ) → move_list_of o
+        ≡ listing.both_below signature (plain_meet_of meet.now) next (λ k. move_list_of rights.now)
         (map shaped_of lefts.now)) }
 {
     let mut made = Some(Vec::new(alloc));
@@ -178,8 +181,8 @@ pub fn at_gates(
     gates: &[u32],
     moves: &Option<Vec<PlainMove>>,
 ) -> Result<Option<Vec<PlainMove>>, AllocError>
-    ensures { IfOk result (λ o. list_of o ≡ listing.at_gates_below formal 0 gates.now
-        (list_of moves.now)) }
+    ensures { IfOk result (λ o. move_list_of o ≡ listing.at_gates_below formal 0 gates.now
+        (move_list_of moves.now)) }
 {
     let mut made = Some(Vec::new(alloc));
     for position in 0..gates.len() {

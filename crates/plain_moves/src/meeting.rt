@@ -4,7 +4,7 @@ ghost use Rattle.std.specs.Prelude.{◌≡◌};
 ghost use Rattle.behaviour_semantics.specs.Rule as rules_of;
 ghost use Rattle.lotos_base.specs.Signature.{Signature};
 ghost use Rattle.lotos_base.specs.Substitution.{is_listed as is_listed_in};
-ghost use Rattle.plain_moves.specs.View.{label_of, meet_of};
+ghost use Rattle.plain_moves.specs.View.{plain_label_of, plain_meet_of};
 
 use crate::behaviour::PlainMeet;
 use crate::label::PlainLabel;
@@ -23,7 +23,7 @@ pub fn is_listed(gates: &[u32], gate: u32) -> bool
 
 /// Whether the two sides meet at the gate.
 pub fn synchronises(meet: &PlainMeet, gate: u32) -> bool
-    ensures { result ≡ rules_of.synchronises (meet_of meet.now) gate }
+    ensures { result ≡ rules_of.synchronises (plain_meet_of meet.now) gate }
 {
     match meet {
         PlainMeet::Nothing => false,
@@ -34,7 +34,7 @@ pub fn synchronises(meet: &PlainMeet, gate: u32) -> bool
 
 /// Whether a side moves alone with this label.
 pub fn moves_alone(meet: &PlainMeet, label: PlainLabel) -> bool
-    ensures { result ≡ rules_of.moves_alone (meet_of meet.now) (label_of label) }
+    ensures { result ≡ rules_of.moves_alone (plain_meet_of meet.now) (plain_label_of label) }
 {
     match label {
         PlainLabel::Inner => true,
@@ -46,8 +46,8 @@ pub fn moves_alone(meet: &PlainMeet, label: PlainLabel) -> bool
 /// Whether the two sides move together with these labels.
 pub fn move_together(meet: &PlainMeet, left: PlainLabel, right: PlainLabel) -> bool
     ensures { (signature : Signature)
-        → result ≡ rules_of.move_together signature (meet_of meet.now) (label_of left)
-        (label_of right) }
+        → result ≡ rules_of.move_together signature (plain_meet_of meet.now) (plain_label_of left)
+        (plain_label_of right) }
 {
     match (left, right) {
         (PlainLabel::Gate(gate), PlainLabel::Gate(other)) => gate == other
@@ -59,7 +59,7 @@ pub fn move_together(meet: &PlainMeet, left: PlainLabel, right: PlainLabel) -> b
 
 /// The label under `hide`.
 pub fn hidden_label(gates: &[u32], label: PlainLabel) -> PlainLabel
-    ensures { label_of result ≡ rules_of.hidden_label gates.now (label_of label) }
+    ensures { plain_label_of result ≡ rules_of.hidden_label gates.now (plain_label_of label) }
 {
     match label {
         PlainLabel::Gate(gate) if is_listed(gates, gate) => PlainLabel::Inner,
@@ -69,7 +69,7 @@ pub fn hidden_label(gates: &[u32], label: PlainLabel) -> PlainLabel
 
 /// Whether the label is that of a successful termination.
 pub fn is_exit(label: PlainLabel) -> bool
-    ensures { result ≡ rules_of.is_exit (label_of label) }
+    ensures { result ≡ rules_of.is_exit (plain_label_of label) }
 {
     match label {
         PlainLabel::Exit => true,

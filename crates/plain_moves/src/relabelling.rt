@@ -4,7 +4,7 @@ ghost use Rattle.std.specs.Prelude.{◌≡◌, IfOk, filter, map, not, zip};
 ghost use Rattle.behaviour_semantics.specs.Label as labels;
 ghost use Rattle.behaviour_semantics.specs.Rule as rules_of;
 ghost use Rattle.lotos_base.specs.Substitution.{is_listed};
-ghost use Rattle.plain_moves.specs.View.{without_values, label_of, meet_of};
+ghost use Rattle.plain_moves.specs.View.{without_values, plain_label_of, plain_meet_of};
 
 use crate::behaviour::{PlainBehaviour, PlainMeet, parallel, shared};
 use crate::label::PlainLabel;
@@ -41,7 +41,7 @@ pub fn gates_under(
 
 /// The label with its gate relabelled.
 pub fn label_under(pairs: &[(u32, u32)], label: PlainLabel) -> PlainLabel
-    ensures { label_of result ≡ labels.label_under pairs.now (label_of label) }
+    ensures { plain_label_of result ≡ labels.label_under pairs.now (plain_label_of label) }
 {
     match label {
         PlainLabel::Inner => PlainLabel::Inner,
@@ -151,7 +151,7 @@ pub fn copies(
     body: &Rc<PlainBehaviour>,
 ) -> Result<Rc<PlainBehaviour>, AllocError>
     ensures { IfOk result (λ made. without_values made.value
-        ≡ rules_of.copies gate gates.now (meet_of meet.now) (without_values body.now.value)) }
+        ≡ rules_of.copies gate gates.now (plain_meet_of meet.now) (without_values body.now.value)) }
 {
     let [first, rest @ ..] = gates else {
         return shared(alloc, PlainBehaviour::Stop);

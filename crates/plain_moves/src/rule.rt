@@ -6,7 +6,7 @@ ghost use Rattle.behaviour_semantics.specs.Rule as rules_of;
 ghost use Rattle.lotos_base.specs.Signature.{Signature};
 ghost use Rattle.plain_moves.specs.Taken.{taken_of};
 ghost use Rattle.plain_moves.specs.MoveView.{shaped_of};
-ghost use Rattle.plain_moves.specs.View.{without_values, label_of, shape_of};
+ghost use Rattle.plain_moves.specs.View.{without_values, plain_label_of, plain_shape_of};
 ghost use Rattle.behaviour_semantics.specs.Behaviour as plain;
 
 use crate::behaviour::{PlainBehaviour, PlainMeet, parallel, shared};
@@ -72,7 +72,7 @@ impl<'a> Rule<'a> {
 
     /// The label of that move, if the rule makes one.
     pub fn label(&self, part: &PlainMove) -> Option<PlainLabel>
-        ensures { (signature : Signature) → option_map label_of result
+        ensures { (signature : Signature) → option_map plain_label_of result
             ≡ option_map (λ x. x.move.label) (taken_of signature self.now (shaped_of part.now)) }
     {
         let label = part.label;
@@ -107,7 +107,7 @@ impl<'a> Rule<'a> {
     pub fn shape(&self, alloc: Global, part: &PlainMove) -> Result<Rc<PlainShape>, AllocError>
         ensures { IfOk result (λ s. (signature : Signature)
             → IfSome (taken_of signature self.now (shaped_of part.now))
-            (λ x. x.shape ≡ shape_of s.value)) }
+            (λ x. x.shape ≡ plain_shape_of s.value)) }
     {
         let shape = part.shape.clone()?;
         let made = match self {
@@ -157,7 +157,7 @@ fn after_enable(
     target: Rc<PlainBehaviour>,
     right: &Rc<PlainBehaviour>,
 ) -> Result<Rc<PlainBehaviour>, AllocError>
-    ensures { IfOk result (λ b. without_values b.value ≡ (if rules_of.is_exit (label_of label)
+    ensures { IfOk result (λ b. without_values b.value ≡ (if rules_of.is_exit (plain_label_of label)
         then without_values right.now.value
         else plain.enable (without_values target.value) [] (without_values right.now.value))) }
 {
@@ -175,7 +175,8 @@ fn after_disable(
     target: Rc<PlainBehaviour>,
     right: &Rc<PlainBehaviour>,
 ) -> Result<Rc<PlainBehaviour>, AllocError>
-    ensures { IfOk result (λ b. without_values b.value ≡ rules_of.still_disabled (label_of label)
+    ensures { IfOk result (λ b. without_values b.value
+        ≡ rules_of.still_disabled (plain_label_of label)
         (without_values target.value) (without_values right.now.value)) }
 {
     if is_exit(label) {

@@ -1,11 +1,12 @@
 use Rattle.std.proofs.Common.{◌≡◌, ◌<◌, ◌≤◌, ℕ, ◌+◌, zero, suc, List, [], ◌∷◌, ◌++◌, Bool, true, false, codes, map, length, get_or, take, drop, refl, sym, ◌∙◌, ap, append_assoc, add-one, arith, drop-cons}
 use Rattle.std.proofs.Math.Seq.{take-append_seam, drop-append_seam, drop-length}
 use Rattle.std.proofs.lemmas.List.{append-nil}
-use Rattle.printed_texts.specs.Brackets.{round, bracketed, opening, closed, commas, after_commas, separator, listed, spaced}
+use Rattle.printed_texts.specs.Brackets.{round, bracketed, opening, with_closing_bracket, commas, after_commas, separator, listed, spaced}
 
 -- brackets that are closed behind what was written since they were opened
 pub closed_brackets :
-    (needed : Bool) (head text : List ℕ) → closed needed (length (head ++ opening needed)) ((head ++ opening needed) ++ text) ≡ head
+    (needed : Bool) (head text : List ℕ) → with_closing_bracket needed (length (head ++ opening needed))
+    ((head ++ opening needed) ++ text) ≡ head
     ++ bracketed needed text
 closed_brackets true head text =
     rw (take-append_seam (head ++ codes "(") text) (rw (drop-append_seam (head ++ codes "(") text)
@@ -19,12 +20,12 @@ pub closed_text :
     opened ≡ head ++ opening needed →
     position ≡ length opened →
     written ≡ opened ++ text →
-    end ≡ closed needed position written →
+    end ≡ with_closing_bracket needed position written →
     end ≡ head ++ bracketed needed text
 closed_text needed head opened written end text position is_opened at is_written is_end =
     is_end
-    ∙ ap (λ xs. closed needed position xs) (is_written ∙ ap (λ xs. xs ++ text) is_opened)
-    ∙ ap (λ n. closed needed n ((head ++ opening needed) ++ text)) (at ∙ ap length is_opened)
+    ∙ ap (λ xs. with_closing_bracket needed position xs) (is_written ∙ ap (λ xs. xs ++ text) is_opened)
+    ∙ ap (λ n. with_closing_bracket needed n ((head ++ opening needed) ++ text)) (at ∙ ap length is_opened)
     ∙ closed_brackets needed head text
 
 -- the next text of a list

@@ -37,10 +37,6 @@ pub given_are : (s : KeptSignature) (vs : List Sorted) → (length vs ≡ 0 → 
 given_are s [] h = absurd (h refl)
 given_are s (v ∷ vs) h = ap (λ texts. codes " " ++ commas texts) (value_texts s (v ∷ vs))
 
-pub none_given : (s : KeptSignature) (vs : List Sorted) → length vs ≡ 0 → given_text (signature_of s) (terms_of vs) ≡ []
-none_given s [] h = refl
-none_given s (v ∷ vs) h = absurd (cc h)
-
 -- the conditions of an entry that has some
 pub conditions_are :
     (s : KeptSignature) (cs : List (Sorted × Sorted)) →

@@ -11,12 +11,12 @@ use Rattle.sort_terms.specs.declared.signatures.Signature.{Signature}
 use Rattle.sort_terms.specs.ProfiledTerm.{ProfiledTerms}
 use Rattle.sort_terms.specs.TermView.{all_profiled}
 use Rattle.sort_terms.specs.declared.terms.Term.{Term}
-use Rattle.sort_terms.specs.declared.terms.Term.TheVariants.{Node, Var}
-use Rattle.sort_terms.proofs.BuiltLists.{node_with_items, profiled_Var}
+use Rattle.sort_terms.specs.declared.terms.Term.TheVariants.{Node}
+use Rattle.sort_terms.proofs.BuiltLists.{node_with_items}
 use Rattle.printed_texts.specs.Brackets.{listed}
 use Rattle.printed_texts.specs.TextView.{argument_text}
 use Rattle.printed_texts.proofs.BracketLemmas.{listed_nothing}
-use Rattle.printed_texts.specs.Parts.{profiled_weight, weight, weight_of, weights, weights_of, with_part, written}
+use Rattle.printed_texts.specs.Parts.{profiled_weight, part_weight, weight_of, part_weights, weights_of, with_part, written}
 use Rattle.printed_texts.specs.declared.terms.Part.{Part}
 
 written_last : (s : Signature) (names : List Variable) (parts : List Part) (part : Part) (text : List ℕ)
@@ -30,20 +30,18 @@ pub written_more : (s : Signature) (names : List Variable) (more parts : List Pa
     → written s names more text ≡ written s names parts (with_part s names part text)
 written_more s names more parts part text is = ap (λ ps. written s names ps text) is ∙ written_last s names parts part text
 
-weights_last : (parts : List Part) (part : Part) → weights (parts ++ part ∷ []) ≡ weights parts + weight part
+weights_last : (parts : List Part) (part : Part) → part_weights (parts ++ part ∷ []) ≡ part_weights parts + part_weight part
 weights_last [] part = omega arith
 weights_last (first ∷ parts) part = let e = weights_last parts part in omega arith
 
-pub weights_more : (more parts : List Part) (part : Part) → more ≡ parts ++ part ∷ [] → weights more ≡ weights parts + weight part
-weights_more more parts part is = ap weights is ∙ weights_last parts part
+pub weights_more : (more parts : List Part) (part : Part) → more ≡ parts ++ part ∷ []
+    → part_weights more ≡ part_weights parts + part_weight part
+weights_more more parts part is = ap part_weights is ∙ weights_last parts part
 
 -- an operation on arguments, and a variable
 pub weight_node : (t : Term) (op : ℕ) (profile : Rc Op Global) (arguments : ProfiledTerms) (items : List Term)
     → t ≡ Node op profile arguments → all_profiled items ≡ arguments → weight_of t ≡ 5 + weights_of items
 weight_node t op profile arguments items is same = ap profiled_weight (node_with_items t op profile arguments items is same)
-
-pub weight_variable : (t : Term) (n s : ℕ) → t ≡ Var n s → weight_of t ≡ 1
-weight_variable t n s is = ap weight_of is ∙ ap profiled_weight (profiled_Var n s)
 
 -- the two operands of an infix operation
 pub weights_two : (ts : List Term) (t u : Term) → length ts ≡ 2 → t ≡ get_or ts 0 t → u ≡ get_or ts 1 u
@@ -78,7 +76,7 @@ written_five s names old one two three four five a b c d e text first second thi
 
 pub weights_five : (old one two three four five : List Part) (a b c d e : Part) → one ≡ old ++ a ∷ [] → two ≡ one ++ b ∷ []
     → three ≡ two ++ c ∷ [] → four ≡ three ++ d ∷ [] → five ≡ four ++ e ∷ []
-    → weights five ≡ weights old + weight a + weight b + weight c + weight d + weight e
+    → part_weights five ≡ part_weights old + part_weight a + part_weight b + part_weight c + part_weight d + part_weight e
 weights_five old one two three four five a b c d e first second third fourth fifth =
     let g = weights_more one old a first in
     let h = weights_more two one b second in

@@ -7,7 +7,7 @@ use Rattle.lotos_base.specs.Twins.{has_twin}
 use Rattle.sort_terms.specs.Operations.{operation_of}
 use Rattle.sort_terms.specs.SignatureView.{signature_of}
 use Rattle.sort_terms.specs.EquationView.{variable_of}
-use Rattle.sort_terms.specs.TermView.{all_profiled, term_of, terms_of}
+use Rattle.sort_terms.specs.TermView.{all_profiled, term_of, bare_terms_of}
 use Rattle.sort_terms.specs.ProfiledTerm.{ProfiledTerms, bare}
 use Rattle.sort_terms.specs.declared.equations.Variable.{Variable}
 use Rattle.sort_terms.specs.declared.operations.Op.{Op}
@@ -16,7 +16,7 @@ use Rattle.sort_terms.specs.declared.terms.Term.{Term}
 use Rattle.sort_terms.specs.declared.terms.Term.TheVariants.{Node as TermNode}
 use Rattle.sort_terms.proofs.BuiltLists.{node_with_items}
 use Rattle.printed_texts.proofs.BracketLemmas.{closed_text}
-use Rattle.printed_texts.specs.Brackets.{bracketed, round, opening, closed, commas}
+use Rattle.printed_texts.specs.Brackets.{bracketed, round, opening, with_closing_bracket, commas}
 use Rattle.printed_texts.specs.TermText.{Phrase, phrase_text, phrase_of, phrases_of, operand_text, operator_text, arguments_text, prefix_phrase, infix_phrase, application_phrase, node_phrase, between_text, of_text, shown}
 use Rattle.printed_texts.specs.TextView.{is_between, phrase_in, phrases_in, argument_text, infix_in, prefix_in}
 
@@ -95,7 +95,7 @@ pub infix_written :
     left ≡ opened ++ first →
     sign ≡ left ++ operator →
     right ≡ sign ++ second →
-    end ≡ closed needed position right →
+    end ≡ with_closing_bracket needed position right →
     whole ≡ end ++ sort →
     whole ≡ start ++ (bracketed needed (first ++ operator ++ second) ++ sort)
 infix_written needed start opened left sign right end whole first operator second sort position o p l s r e w =
@@ -112,7 +112,7 @@ pub prefix_written :
     opened ≡ named ++ opening needed →
     position ≡ length opened →
     written ≡ opened ++ text →
-    end ≡ closed needed position written →
+    end ≡ with_closing_bracket needed position written →
     whole ≡ end ++ sort →
     whole ≡ start ++ (name ++ bracketed needed text ++ sort)
 prefix_written needed start named opened written end whole name text sort position n o p t e w =

@@ -2,13 +2,13 @@
 use Rattle.std.specs.Prelude.{ℕ, zero, suc, take, drop, List, [], ◌∷◌, ◌++◌, Bool, true, false, nat_eq, if◌then◌else◌, codes}
 
 -- the text begins with this character
-abbrev pub begins_with : ℕ → List ℕ → Bool
-begins_with sign [] = false
-begins_with sign (character ∷ characters) = nat_eq character sign
+abbrev pub begins_with_sign : ℕ → List ℕ → Bool
+begins_with_sign sign [] = false
+begins_with_sign sign (character ∷ characters) = nat_eq character sign
 
 -- the text behind a bracket: a blank comes before a character that would make another token with the bracket
 abbrev pub spaced : ℕ → List ℕ → List ℕ
-spaced sign text = if begins_with sign text then codes " " ++ text else text
+spaced sign text = if begins_with_sign sign text then codes " " ++ text else text
 
 -- `(` and `*` begin a comment; `*` is character 42
 abbrev pub round : List ℕ → List ℕ
@@ -47,6 +47,6 @@ listed zero texts = commas texts
 listed (suc number) texts = after_commas texts
 
 -- a text whose part from this position on is put in brackets that are open already
-abbrev pub closed : Bool → ℕ → List ℕ → List ℕ
-closed true position text = take position text ++ spaced 42 (drop position text) ++ codes ")"
-closed false position text = text
+abbrev pub with_closing_bracket : Bool → ℕ → List ℕ → List ℕ
+with_closing_bracket true position text = take position text ++ spaced 42 (drop position text) ++ codes ")"
+with_closing_bracket false position text = text

@@ -73,14 +73,14 @@ entry_text signature gates entry =
     label_text signature gates entry.label ++ for_text signature entry.variables ++ if_text signature entry.conditions
 
 -- a line of a menu
-abbrev pub line_text : Signature → List (List ℕ) → ℕ → Entry → List ℕ
-line_text signature gates number entry = decimal number ++ codes ": " ++ entry_text signature gates entry ++ codes "\n"
+abbrev pub menu_line_text : Signature → List (List ℕ) → ℕ → Entry → List ℕ
+menu_line_text signature gates number entry = decimal number ++ codes ": " ++ entry_text signature gates entry ++ codes "\n"
 
 -- the lines of entries that are numbered from this number on
 abbrev pub lines_text : Signature → List (List ℕ) → ℕ → List Entry → List ℕ
 lines_text signature gates number [] = []
 lines_text signature gates number (entry ∷ entries) =
-    line_text signature gates number entry ++ lines_text signature gates (number + 1) entries
+    menu_line_text signature gates number entry ++ lines_text signature gates (number + 1) entries
 
 -- a menu: how many entries it has, and a line for each, numbered from 1
 abbrev pub menu_text : Signature → List (List ℕ) → List Entry → List ℕ

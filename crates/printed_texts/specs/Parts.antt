@@ -8,7 +8,7 @@ use Rattle.sort_terms.specs.SignatureView.{signature_of}
 use Rattle.sort_terms.specs.declared.equations.Variable.{Variable}
 use Rattle.sort_terms.specs.declared.signatures.Signature.{Signature}
 use Rattle.sort_terms.specs.declared.terms.Term.{Term}
-use Rattle.printed_texts.specs.Brackets.{closed, listed}
+use Rattle.printed_texts.specs.Brackets.{with_closing_bracket, listed}
 use Rattle.printed_texts.specs.TermText.{operator_text, shown, sort_text}
 use Rattle.printed_texts.specs.TextView.{argument_text, phrase_in}
 use Rattle.printed_texts.specs.declared.terms.Part.{Part}
@@ -24,7 +24,7 @@ with_part signature names (Phrase term is_operand) text = text ++ shown is_opera
 with_part signature names (Arguments terms number) text =
     text ++ listed number (map (argument_text signature names) (drop number terms.now.items))
 with_part signature names (Operator operation) text = text ++ operator_text (operation_of operation.now).name
-with_part signature names (Close is_needed position) text = closed is_needed position text
+with_part signature names (Close is_needed position) text = with_closing_bracket is_needed position text
 with_part signature names (Of operation with_sort) text =
     text ++ of_text_if with_sort (signature_of signature) (operation_of operation.now)
 
@@ -51,13 +51,13 @@ abbrev pub weights_of : List Term → ℕ
 weights_of ts = profiled_weights (all_profiled ts)
 
 -- how many turns a part may take, at most
-abbrev pub weight : Part → ℕ
-weight (Phrase term is_operand) = weight_of term.now
-weight (Arguments terms number) = 1 + weights_of (drop number terms.now.items)
-weight (Operator operation) = 1
-weight (Close is_needed position) = 1
-weight (Of operation with_sort) = 1
+abbrev pub part_weight : Part → ℕ
+part_weight (Phrase term is_operand) = weight_of term.now
+part_weight (Arguments terms number) = 1 + weights_of (drop number terms.now.items)
+part_weight (Operator operation) = 1
+part_weight (Close is_needed position) = 1
+part_weight (Of operation with_sort) = 1
 
-abbrev pub weights : List Part → ℕ
-weights [] = 0
-weights (part ∷ parts) = weight part + weights parts
+abbrev pub part_weights : List Part → ℕ
+part_weights [] = 0
+part_weights (part ∷ parts) = part_weight part + part_weights parts

@@ -11,14 +11,3 @@ head_text name data_ =
 -- a file that could not be got
 abbrev pub unread_text : List ℕ → List ℕ
 unread_text name = codes "cannot read " ++ name ++ codes "\n"
-
--- an input that failed, and one that is too long
-abbrev pub failed_text : List ℕ
-failed_text = codes "input failed\n"
-
-abbrev pub long_text : List ℕ
-long_text = codes "input too long\n"
-
--- the line that says how the program is used
-abbrev pub usage_text : List ℕ
-usage_text = codes "usage: lotos check SPEC [ORDER] [with TERM...] | run SPEC [ORDER] [with TERM...] | demo N\n"

@@ -5,46 +5,46 @@ use Rattle.lotos_base.specs.Term.{Term, variable, node, no_terms, term_then}
 use Rattle.lotos_base.specs.Equation.{Variable}
 use Rattle.behaviour_semantics.specs.Behaviour.{Behaviour, Process, Specification, stop}
 
-abbrev pub sort_named : List ℕ → Sort
-sort_named name = record { name = name; origin = codes "T" }
+abbrev pub printed_sort : List ℕ → Sort
+printed_sort name = record { name = name; origin = codes "T" }
 
-abbrev pub operation_named : List ℕ → Form → List ℕ → ℕ → Operation
-operation_named name form arguments result =
+abbrev pub printed_operation : List ℕ → Form → List ℕ → ℕ → Operation
+printed_operation name form arguments result =
     record { name = name; form = form; arguments = arguments; result = result; origin = codes "T" }
 
 -- `d` and `D` are twins, since letter case makes no other name, and so are the two `-`; `h` and its infix namesake are none
-abbrev pub sample_signature : Signature
-sample_signature = record {
-  sorts = sort_named (codes "A") ∷ sort_named (codes "B") ∷ [];
+abbrev pub printed_sample_signature : Signature
+printed_sample_signature = record {
+  sorts = printed_sort (codes "A") ∷ printed_sort (codes "B") ∷ [];
   operations =
-      operation_named (codes "a") prefix_form [] 0
-      ∷ operation_named (codes "f") prefix_form (0 ∷ []) 0
-      ∷ operation_named (codes "+") infix_form (0 ∷ 0 ∷ []) 0
-      ∷ operation_named (codes "*") prefix_form (0 ∷ []) 0
-      ∷ operation_named (codes ">") prefix_form (0 ∷ []) 0
-      ∷ operation_named (codes "d") prefix_form [] 0
-      ∷ operation_named (codes "D") prefix_form [] 1
-      ∷ operation_named (codes "-") infix_form (0 ∷ 0 ∷ []) 0
-      ∷ operation_named (codes "-") infix_form (0 ∷ 0 ∷ []) 1
-      ∷ operation_named (codes "h") prefix_form (0 ∷ 0 ∷ []) 0
-      ∷ operation_named (codes "h") infix_form (0 ∷ 0 ∷ []) 1
+      printed_operation (codes "a") prefix_form [] 0
+      ∷ printed_operation (codes "f") prefix_form (0 ∷ []) 0
+      ∷ printed_operation (codes "+") infix_form (0 ∷ 0 ∷ []) 0
+      ∷ printed_operation (codes "*") prefix_form (0 ∷ []) 0
+      ∷ printed_operation (codes ">") prefix_form (0 ∷ []) 0
+      ∷ printed_operation (codes "d") prefix_form [] 0
+      ∷ printed_operation (codes "D") prefix_form [] 1
+      ∷ printed_operation (codes "-") infix_form (0 ∷ 0 ∷ []) 0
+      ∷ printed_operation (codes "-") infix_form (0 ∷ 0 ∷ []) 1
+      ∷ printed_operation (codes "h") prefix_form (0 ∷ 0 ∷ []) 0
+      ∷ printed_operation (codes "h") infix_form (0 ∷ 0 ∷ []) 1
       ∷ [];
 }
 
-abbrev pub a : Term
-a = node 0 no_terms
+abbrev pub printed_a : Term
+printed_a = node 0 no_terms
 
-abbrev pub f : Term → Term
-f t = node 1 (term_then t no_terms)
+abbrev pub printed_f : Term → Term
+printed_f t = node 1 (term_then t no_terms)
 
-abbrev pub plus : Term → Term → Term
-plus t u = node 2 (term_then t (term_then u no_terms))
+abbrev pub printed_plus : Term → Term → Term
+printed_plus t u = node 2 (term_then t (term_then u no_terms))
 
 abbrev pub star : Term → Term
 star t = node 3 (term_then t no_terms)
 
-abbrev pub above : Term → Term
-above t = node 4 (term_then t no_terms)
+abbrev pub printed_above : Term → Term
+printed_above t = node 4 (term_then t no_terms)
 
 abbrev pub small_d : Term
 small_d = node 5 no_terms
@@ -62,11 +62,11 @@ h t u = node 9 (term_then t (term_then u no_terms))
 abbrev pub v : ℕ → Term
 v number = variable number 0
 
-abbrev pub declared_x : Variable
-declared_x = record { name = codes "x"; number = 0; sort = 0 }
+abbrev pub printed_x : Variable
+printed_x = record { name = codes "x"; number = 0; sort = 0 }
 
-abbrev pub declared_y : Variable
-declared_y = record { name = codes "y"; number = 1; sort = 1 }
+abbrev pub printed_y : Variable
+printed_y = record { name = codes "y"; number = 1; sort = 1 }
 
 -- the gates a, g, x and y, and a process P
 abbrev pub sample_gates : List (List ℕ)
@@ -75,8 +75,8 @@ sample_gates = codes "a" ∷ codes "g" ∷ codes "x" ∷ codes "y" ∷ []
 abbrev pub sample_process : Process
 sample_process = record { name = codes "P"; gates = []; parameters = []; exit = None; body = stop }
 
-abbrev pub sample_specification : Specification
-sample_specification = record {
+abbrev pub printed_sample_specification : Specification
+printed_sample_specification = record {
   name = codes "S";
   gate_names = sample_gates;
   gates = [];

@@ -10,46 +10,46 @@ use Rattle.printed_texts.specs.TermText.{term_text}
 use Rattle.printed_texts.specs.MenuText.{label_text, menu_text}
 use Rattle.printed_texts.specs.BehaviourText.{state_text}
 use Rattle.printed_texts.specs.ReportLines.{head_text}
-use Rattle.printed_texts.specs.Samples.{sample_signature, sample_gates, sample_specification, a, f, plus, star, above, small_d, capital_d, minus, h, v, declared_x, declared_y}
+use Rattle.printed_texts.specs.Samples.{printed_sample_signature, sample_gates, printed_sample_specification, printed_a, printed_f, printed_plus, star, printed_above, small_d, capital_d, minus, h, v, printed_x, printed_y}
 
 abbrev pub HasText : Term → List ℕ → Type 0
-HasText term text = term_text sample_signature (declared_x ∷ []) term ≡ text
+HasText term text = term_text printed_sample_signature (printed_x ∷ []) term ≡ text
 
 -- Constants, prefix and infix operations, and the brackets of operands.
 pub record OperandsStandInBrackets : Type 0 where
-  pub constant : HasText a (codes "a")
-  pub prefix : HasText (f (plus a a)) (codes "f(a + a)")
-  pub several : HasText (h a (f a)) (codes "h(a, f(a))")
-  pub right : HasText (plus a (plus a a)) (codes "a + (a + a)")
-  pub left : HasText (plus (plus a a) (f a)) (codes "(a + a) + f(a)")
-  pub variables : HasText (plus (v 0) (v 1)) (codes "x + $2")
+  pub constant : HasText printed_a (codes "a")
+  pub prefix : HasText (printed_f (printed_plus printed_a printed_a)) (codes "f(a + a)")
+  pub several : HasText (h printed_a (printed_f printed_a)) (codes "h(a, f(a))")
+  pub right : HasText (printed_plus printed_a (printed_plus printed_a printed_a)) (codes "a + (a + a)")
+  pub left : HasText (printed_plus (printed_plus printed_a printed_a) (printed_f printed_a)) (codes "(a + a) + f(a)")
+  pub variables : HasText (printed_plus (v 0) (v 1)) (codes "x + $2")
 
 -- A name that begins with `*` stands apart from the bracket before it.
 pub record StarsStandApart : Type 0 where
-  pub argument : HasText (f (star a)) (codes "f( *(a))")
-  pub operand : HasText (plus (plus (star a) a) a) (codes "( *(a) + a) + a")
-  pub outside : HasText (star (f a)) (codes "*(f(a))")
+  pub argument : HasText (printed_f (star printed_a)) (codes "f( *(a))")
+  pub operand : HasText (printed_plus (printed_plus (star printed_a) printed_a) printed_a) (codes "( *(a) + a) + a")
+  pub outside : HasText (star (printed_f printed_a)) (codes "*(f(a))")
 
 -- The sort stands behind an operation that has a twin, without regard to the letter case of names.
 pub record TwinsHaveTheirSorts : Type 0 where
-  pub constant : HasText (f small_d) (codes "f(d of A)")
+  pub constant : HasText (printed_f small_d) (codes "f(d of A)")
   pub other : HasText capital_d (codes "D of B")
-  pub infix_operation : HasText (minus a a) (codes "(a - a) of A")
-  pub operand : HasText (plus (minus a a) small_d) (codes "(a - a) of A + d of A")
+  pub infix_operation : HasText (minus printed_a printed_a) (codes "(a - a) of A")
+  pub operand : HasText (printed_plus (minus printed_a printed_a) small_d) (codes "(a - a) of A + d of A")
 
 abbrev pub HasLabelText : Label → List ℕ → Type 0
-HasLabelText label text = label_text sample_signature sample_gates label ≡ text
+HasLabelText label text = label_text printed_sample_signature sample_gates label ≡ text
 
 -- Labels.
 pub record LabelsHaveTexts : Type 0 where
   pub inner : HasLabelText inner_event (codes "i")
-  pub gate : HasLabelText (gate_event 1 (f (star a) ∷ plus a (v 0) ∷ [])) (codes "g !f( *(a)) !a + $1")
+  pub gate : HasLabelText (gate_event 1 (printed_f (star printed_a) ∷ printed_plus printed_a (v 0) ∷ [])) (codes "g !f( *(a)) !a + $1")
   pub bare_gate : HasLabelText (gate_event 0 []) (codes "a")
-  pub exit : HasLabelText (exit_event (star a ∷ a ∷ [])) (codes "exit( *(a), a)")
+  pub exit : HasLabelText (exit_event (star printed_a ∷ printed_a ∷ [])) (codes "exit( *(a), a)")
   pub bare_exit : HasLabelText (exit_event []) (codes "exit")
 
-abbrev pub entry : Label → List ℕ → List Test → Entry
-entry label variables conditions =
+abbrev pub printed_entry : Label → List ℕ → List Test → Entry
+printed_entry label variables conditions =
     record { shape = act; label = label; variables = variables; leaves = []; conditions = conditions }
 
 abbrev pub equation : Term → Term → Test
@@ -57,20 +57,20 @@ equation left right = record { left = left; right = right }
 
 -- Menus.
 pub record MenusHaveTexts : Type 0 where
-  pub empty : menu_text sample_signature sample_gates [] ≡ codes "events 0\n"
+  pub empty : menu_text printed_sample_signature sample_gates [] ≡ codes "events 0\n"
   pub variables :
-      menu_text sample_signature sample_gates
-      (entry (gate_event 1 (v 0 ∷ v 1 ∷ [])) (0 ∷ 1 ∷ []) [] ∷ entry inner_event (0 ∷ []) [] ∷ [])
+      menu_text printed_sample_signature sample_gates
+      (printed_entry (gate_event 1 (v 0 ∷ v 1 ∷ [])) (0 ∷ 1 ∷ []) [] ∷ printed_entry inner_event (0 ∷ []) [] ∷ [])
       ≡ codes "events 2\n1: g !$1 !$2 for $1:A, $2:B\n2: i for $1:A\n"
   pub conditions :
-      menu_text sample_signature sample_gates
-      (entry (gate_event 1 (f (v 0) ∷ [])) (0 ∷ []) (equation (f (v 0)) (v 0) ∷ equation (v 0) a ∷ []) ∷ [])
+      menu_text printed_sample_signature sample_gates
+      (printed_entry (gate_event 1 (printed_f (v 0) ∷ [])) (0 ∷ []) (equation (printed_f (v 0)) (v 0) ∷ equation (v 0) printed_a ∷ []) ∷ [])
       ≡ codes "events 1\n1: g !f($1) for $1:A if f($1) = $1, $1 = a\n"
-  pub head : head_text (codes "S") (record { signature = sample_signature; equations = [] })
+  pub head : head_text (codes "S") (record { signature = printed_sample_signature; equations = [] })
       ≡ codes "accepted S\ndata: 2 sorts, 11 operations, 0 equations\n"
 
 abbrev pub HasStateText : Behaviour → List ℕ → Type 0
-HasStateText behaviour text = state_text sample_signature sample_specification behaviour ≡ text
+HasStateText behaviour text = state_text printed_sample_signature printed_sample_specification behaviour ≡ text
 
 abbrev pub at_g : Behaviour
 at_g = action 1 [] None stop
@@ -78,13 +78,14 @@ at_g = action 1 [] None stop
 -- Actions, guards and endings, and the brackets of what follows.
 pub record PrefixesHaveTexts : Type 0 where
   pub nothing : HasStateText stop (codes "stop")
-  pub exit : HasStateText (exit_with (exit_value (star a) ∷ any_of 1 ∷ [])) (codes "exit( *(a), any B)")
+  pub exit : HasStateText (exit_with (exit_value (star printed_a) ∷ any_of 1 ∷ [])) (codes "exit( *(a), any B)")
   pub bare_exit : HasStateText (exit_with []) (codes "exit")
   pub offers :
-      HasStateText (action 1 (give a ∷ ask declared_x ∷ []) (Some (equation (above (v 0)) a)) (action 0 (give (v 0) ∷ []) None stop))
+      HasStateText (action 1 (give printed_a ∷ ask printed_x ∷ []) (Some (equation (printed_above (v 0)) printed_a))
+      (action 0 (give (v 0) ∷ []) None stop))
       (codes "g !a ?x:A [ >(x) = a]; a !x; stop")
   pub inner : HasStateText (inner_action (choice stop at_g)) (codes "i; (stop [] g; stop)")
-  pub guarded : HasStateText (guard (equation a a) (hide (0 ∷ 1 ∷ []) stop)) (codes "[a = a] -> (hide a, g in stop)")
+  pub guarded : HasStateText (guard (equation printed_a printed_a) (hide (0 ∷ 1 ∷ []) stop)) (codes "[a = a] -> (hide a, g in stop)")
 
 -- Binary forms with their signs.
 pub record SignsStandBetweenParts : Type 0 where
@@ -95,19 +96,19 @@ pub record SignsStandBetweenParts : Type 0 where
   pub no_gate : HasStateText (parallel (at_gates []) stop stop) (codes "stop |[]| stop")
   pub enabling : HasStateText (enable (exit_with []) [] stop) (codes "exit >> stop")
   pub accepting :
-      HasStateText (enable stop (declared_x ∷ declared_y ∷ []) (action 1 (give (v 0) ∷ give (v 1) ∷ []) None stop))
+      HasStateText (enable stop (printed_x ∷ printed_y ∷ []) (action 1 (give (v 0) ∷ give (v 1) ∷ []) None stop))
       (codes "stop >> accept x:A, y:B in g !x !y; stop")
 
 -- Word forms, calls and relabellings.
 pub record WordFormsHaveTexts : Type 0 where
   pub lets :
-      HasStateText (let_be ((declared_x, a) ∷ (declared_y, capital_d) ∷ []) (choice (action 1 (give (v 0) ∷ []) None stop) stop))
+      HasStateText (let_be ((printed_x, printed_a) ∷ (printed_y, capital_d) ∷ []) (choice (action 1 (give (v 0) ∷ []) None stop) stop))
       (codes "let x:A = a, y:B = D of B in g !x; stop [] stop")
-  pub value : HasStateText (choose_value declared_x (action 1 (give (v 0) ∷ []) None stop)) (codes "choice x:A [] g !x; stop")
+  pub value : HasStateText (choose_value printed_x (action 1 (give (v 0) ∷ []) None stop)) (codes "choice x:A [] g !x; stop")
   pub gate : HasStateText (choose_gate 2 (0 ∷ 1 ∷ []) (action 2 [] None stop)) (codes "choice x in [a, g] [] x; stop")
   pub parallel_gates :
       HasStateText (par_gate 2 (0 ∷ 1 ∷ []) no_gates (action 2 [] None stop)) (codes "par x in [a, g] ||| x; stop")
-  pub calls : HasStateText (call 0 (0 ∷ 1 ∷ []) (star a ∷ a ∷ [])) (codes "P[a, g]( *(a), a)")
+  pub calls : HasStateText (call 0 (0 ∷ 1 ∷ []) (star printed_a ∷ printed_a ∷ [])) (codes "P[a, g]( *(a), a)")
   pub bare_call : HasStateText (call 0 [] []) (codes "P")
   pub relabelled :
       HasStateText (relabel ((2, 0) ∷ (3, 0) ∷ []) (parallel (at_gates (2 ∷ [])) (action 2 [] None stop) stop))

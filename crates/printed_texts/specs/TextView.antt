@@ -7,7 +7,7 @@ use Rattle.sort_terms.specs.EquationView.{variable_of}
 use Rattle.sort_terms.specs.Operations.{operation_of}
 use Rattle.sort_terms.specs.SignatureView.{signature_of}
 use Rattle.sort_terms.specs.SortedView.{term_in}
-use Rattle.sort_terms.specs.TermView.{term_of, terms_of}
+use Rattle.sort_terms.specs.TermView.{term_of, bare_terms_of}
 use Rattle.sort_terms.specs.declared.equations.Variable.{Variable}
 use Rattle.sort_terms.specs.declared.operations.Op.{Op}
 use Rattle.sort_terms.specs.declared.signatures.Signature.{Signature}
@@ -19,7 +19,7 @@ use Rattle.event_offers.specs.OfferView.{plain_entry, condition_of}
 use Rattle.event_offers.specs.declared.drafts.Entry.{Entry}
 use Rattle.event_offers.specs.declared.menus.Menu.{Menu}
 use Rattle.printed_texts.specs.TermText.{Phrase, phrase_of, phrases_of, prefix_phrase, application_phrase, term_text}
-use Rattle.printed_texts.specs.MenuText.{label_text, entry_text, line_text, lines_text, menu_text, condition_text, entry_term_text}
+use Rattle.printed_texts.specs.MenuText.{label_text, entry_text, menu_line_text, lines_text, menu_text, condition_text, entry_term_text}
 
 -- a term with these names of variables
 abbrev pub phrase_in : Signature → List Variable → Term → Phrase
@@ -30,7 +30,7 @@ argument_text signature names term = (phrase_in signature names term).text
 
 -- the arguments of an operation
 abbrev pub phrases_in : Signature → List Variable → List Term → List Phrase
-phrases_in signature names terms = phrases_of (signature_of signature) (map variable_of names) (terms_of terms)
+phrases_in signature names terms = phrases_of (signature_of signature) (map variable_of names) (bare_terms_of terms)
 
 -- an operation on these arguments, before them and between them
 abbrev pub prefix_in : Signature → List Variable → Op → List Term → Phrase
@@ -64,7 +64,7 @@ abbrev pub written_entry : Signature → List Name → Entry → List ℕ
 written_entry signature gates entry = entry_text (signature_of signature) (map spelling gates) (plain_entry entry)
 
 abbrev pub written_line : Signature → List Name → ℕ → Entry → List ℕ
-written_line signature gates number entry = line_text (signature_of signature) (map spelling gates) number (plain_entry entry)
+written_line signature gates number entry = menu_line_text (signature_of signature) (map spelling gates) number (plain_entry entry)
 
 abbrev pub line_at : Signature → List Name → ℕ → Option Entry → List ℕ
 line_at signature gates number None = []

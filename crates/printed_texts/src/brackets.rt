@@ -1,6 +1,6 @@
 //! Pieces of texts: bytes, numbers, brackets and commas.
 
-ghost use Rattle.printed_texts.specs.Brackets.{begins_with, closed, opening, separator, spaced};
+ghost use Rattle.printed_texts.specs.Brackets.{begins_with_sign, with_closing_bracket, opening, separator, spaced};
 ghost use Rattle.std.specs.Prelude.{
   ◌≡◌,
   ◌++◌,
@@ -45,7 +45,7 @@ pub fn push_separator(into: &mut Vec<u8>, index: usize) -> Result<(), NoMemory>
 
 // Whether the text goes on with this character at the position.
 fn begins(text: &[u8], position: usize, sign: u8) -> bool
-    ensures { result ≡ begins_with sign (drop position text.now) }
+    ensures { result ≡ begins_with_sign sign (drop position text.now) }
 {
     match text.get(position) {
         None => false,
@@ -89,14 +89,16 @@ pub fn open_bracket(into: &mut Vec<u8>, is_needed: bool) -> Result<usize, NoMemo
 /// Closes a bracket where one is open. The text in it begins at the position.
 pub fn close_bracket(into: &mut Vec<u8>, is_needed: bool, position: usize) -> Result<(), NoMemory>
     requires { position ≤ vec_len into.old }
-    ensures { OnOk result (into.new.items ≡ closed is_needed position into.old.items) }
+    ensures { OnOk result
+        (into.new.items ≡ with_closing_bracket is_needed position into.old.items) }
 {
     close(into, is_needed, position)
 }
 
 /// The same at any position.
 pub fn close(into: &mut Vec<u8>, is_needed: bool, position: usize) -> Result<(), NoMemory>
-    ensures { OnOk result (into.new.items ≡ closed is_needed position into.old.items) }
+    ensures { OnOk result
+        (into.new.items ≡ with_closing_bracket is_needed position into.old.items) }
 {
     if !is_needed {
         return Ok(());

@@ -3,7 +3,7 @@
 ghost use Rattle.lotos_base.specs.Twins.{has_twin};
 ghost use Rattle.printed_texts.specs.Brackets.{listed};
 ghost use Rattle.printed_texts.specs.KnownTwins.{AreKnownOf};
-ghost use Rattle.printed_texts.specs.Parts.{weight, weight_of, weights, weights_of, with_part, written};
+ghost use Rattle.printed_texts.specs.Parts.{part_weight, weight_of, part_weights, weights_of, with_part, written};
 ghost use Rattle.printed_texts.specs.TermText.{
   numbered_text,
   operator_text,
@@ -113,7 +113,8 @@ fn push_part<'a>(
     ensures same { OnOk result (written signature.now names.now left.new.items into.new.items
         ≡ written signature.now names.now left.old.items
         (with_part signature.now names.now part.entry into.old.items)) }
-    ensures less { OnOk result (weights left.new.items < weight part.entry + weights left.old.items) }
+    ensures less { OnOk result (part_weights left.new.items < part_weight part.entry
+        + part_weights left.old.items) }
 {
     match part {
         Part::Phrase(term, is_operand) => {
@@ -141,8 +142,8 @@ fn push_head<'a>(
     ensures same { OnOk result (written signature.now names.now left.new.items into.new.items
         ≡ written signature.now names.now left.old.items
         (into.old.items ++ shown is_operand (phrase_in signature.now names.now term.now))) }
-    ensures less { OnOk result (weights left.new.items
-        < weight_of term.now + weights left.old.items) }
+    ensures less { OnOk result (part_weights left.new.items
+        < weight_of term.now + part_weights left.old.items) }
 {
     match term {
         Term::Var { number, .. } => push_variable(names, *number, into),
@@ -177,8 +178,8 @@ fn push_infix<'a>(
         → written signature names left.new.items into.new.items
         ≡ written signature names left.old.items (into.old.items ++ shown is_operand
         (infix_in signature names operation.now arguments.now.items))) }
-    ensures less { OnOk result (weights left.new.items
-        < 5 + weights_of arguments.now.items + weights left.old.items) }
+    ensures less { OnOk result (part_weights left.new.items
+        < 5 + weights_of arguments.now.items + part_weights left.old.items) }
 {
     let is_needed = is_either(is_operand, with_sort);
     let position = open_bracket(into, is_needed)?;
@@ -204,8 +205,8 @@ fn push_prefix<'a>(
         → written signature names left.new.items into.new.items
         ≡ written signature names left.old.items (into.old.items
         ++ phrase_text (prefix_in signature names operation.now arguments.now.items))) }
-    ensures less { OnOk result (weights left.new.items
-        < 5 + weights_of arguments.now.items + weights left.old.items) }
+    ensures less { OnOk result (part_weights left.new.items
+        < 5 + weights_of arguments.now.items + part_weights left.old.items) }
 {
     push_text(into, operation.name.spelled())?;
     let is_needed = !arguments.is_empty();
@@ -228,8 +229,8 @@ fn push_argument<'a>(
         → written signature names left.new.items into.new.items
         ≡ written signature names left.old.items (into.old.items ++ listed index
         (map (argument_text signature names) (drop index arguments.now.items)))) }
-    ensures less { OnOk result (weights left.new.items
-        < 1 + weights_of (drop index arguments.now.items) + weights left.old.items) }
+    ensures less { OnOk result (part_weights left.new.items
+        < 1 + weights_of (drop index arguments.now.items) + part_weights left.old.items) }
 {
     if index >= arguments.len() {
         return Ok(());

@@ -1,6 +1,5 @@
 -- Lists of sorts that are the same, and what is wrong where they are not.
-use Rattle.std.proofs.Common.{◌≡◌, ◌≢◌, ◌<◌, ◌+◌, ◌↔◌, ℕ, List, [], ◌∷◌, drop, length, get_or, nat_eq, ◌&&◌, Bool, true, false, if◌then◌else◌, None, Some, refl, ap, sym, ◌∙◌, eqb-true, add-one}
-use Rattle.std.proofs.Math.Seq.{drop-cons}
+use Rattle.std.proofs.Common.{◌≡◌, ◌≢◌, ◌↔◌, ℕ, List, [], ◌∷◌, length, nat_eq, ◌&&◌, Bool, true, false, if◌then◌else◌, None, Some, refl, ap, sym, ◌∙◌, eqb-true}
 use Rattle.std.proofs.lemmas.Option.{same_Some}
 use Rattle.std.proofs.lemmas.Bool.{eq-eqb}
 use Rattle.lotos_base.specs.declared.places.Place.{Place}
@@ -28,11 +27,6 @@ other_lengths ss ts other = by (are_same ss ts) refl
     by : (same : Bool) → are_same ss ts ≡ same → same ≡ false
     by true is = absurd (other (ap length (same_lists ss ts is)))
     by false is = refl
-
--- The rest of two lists, by their next entries.
-pub next_same : (ss ts : List ℕ) (i : ℕ) → i < length ss → i < length ts
-    → are_same (drop i ss) (drop i ts) ≡ nat_eq (get_or ss i 0) (get_or ts i 0) && are_same (drop (i + 1) ss) (drop (i + 1) ts)
-next_same ss ts i here there = rw (add-one, drop-cons ss i 0, drop-cons ts i 0) refl
 
 -- Two lists at a sign.
 pub nothing_wrong : (place : Place) (ss ts : List ℕ) → at_sign place (Some ss) (Some ts) ≡ [] → ss ≡ ts

@@ -1,6 +1,6 @@
 -- The lists of callers, made process by process.
-use Rattle.std.proofs.Common.{◌≡◌, ◌≢◌, ◌<◌, ◌≤◌, ◌⊎◌, inl, inr, ℕ, zero, suc, ◌+◌, List, [], ◌∷◌, ◌++◌, replicate, length, length-set, slice_get, Some, refl, ap, sym, ◌∙◌, subst, arith}
-use Rattle.std.proofs.lemmas.List.{get_or-set_same, get_or-set_other, get_or-replicate, length-replicate}
+use Rattle.std.proofs.Common.{◌≡◌, ◌≢◌, ◌<◌, ◌≤◌, ◌⊎◌, inl, inr, ℕ, zero, suc, ◌+◌, List, [], ◌∷◌, ◌++◌, length, length-set, slice_get, Some, refl, ap, sym, ◌∙◌, subst, arith}
+use Rattle.std.proofs.lemmas.List.{get_or-set_same, get_or-set_other}
 use Rattle.std.proofs.lemmas.Option.{same_Some, none-some}
 use Rattle.lotos_base.proofs.Members.{at_front}
 use Rattle.process_checks.specs.Graph.{calls_at}
@@ -124,15 +124,6 @@ pub record AreCallersBelow (graph callers : List (List ℕ)) (done : ℕ) : Type
   pub sized : length callers ≡ length graph
   pub only : (process other : ℕ) → process < length graph → Calls callers process other → Calls graph other process
   pub all_ : (process other : ℕ) → process < length graph → other < done → Calls graph other process → Calls callers process other
-
-pub none_yet : (graph : List (List ℕ)) → AreCallersBelow graph (replicate (length graph) []) 0
-none_yet graph = record {
-  sized = length-replicate (length graph) [];
-  only = λ p q there calls.
-      let e : calls_at (replicate (length graph) []) p ≡ [] = get_or-replicate (length graph) p [] [] there in
-      absurd (none-some q (ap (λ (ns : List ℕ). slice_get ns calls.0) (sym e) ∙ calls.1));
-  all_ = λ p q there lt calls. absurd (omega (arith, lt));
-}
 
 pub one_more : (graph callers : List (List ℕ)) (done : ℕ) → AreCallersBelow graph callers done
     → AreCallersBelow graph (with_calls done (calls_at graph done) callers) (done + 1)

@@ -1,19 +1,13 @@
 -- The code's lists and loops.
-use Rattle.std.proofs.Common.{◌≡◌, ◌<◌, ℕ, zero, suc, ◌+◌, List, [], ◌∷◌, ◌++◌, drop, map, set, replicate, length, get_or, slice_get, Some, refl, ap, sym, ◌∙◌, subst, arith, add-one, eqb-true, Vec, Global, vec_len, Bool, true, false, ◌==◌}
-use Rattle.std.proofs.Math.Seq.{drop-cons}
-use Rattle.std.proofs.lemmas.List.{length-map, map-append, replicate_more}
+use Rattle.std.proofs.Common.{◌≡◌, ◌<◌, ℕ, zero, suc, ◌+◌, List, [], ◌∷◌, ◌++◌, drop, map, set, length, get_or, slice_get, Some, refl, ap, sym, ◌∙◌, arith, add-one, eqb-true, Vec, Global, vec_len, Bool, true, false, ◌==◌}
+use Rattle.std.proofs.lemmas.List.{length-map}
 use Rattle.std.proofs.lemmas.Option.{none-some, get_or_from_slice_get}
-use Rattle.behaviour_tree.specs.DefinitionView.{functionality_of}
 use Rattle.behaviour_tree.specs.declared.definitions.Process.{Process}
-use Rattle.process_checks.specs.Calls.{process_at, calls_of, graph_of}
-use Rattle.process_checks.specs.Distances.{Reach, one_marked, all_marked, with_caller, with_call, with_calls}
-use Rattle.process_checks.specs.Exits.{Blames}
-use Rattle.process_checks.specs.Functionality.{Disagreement, of_definition, of_processes}
+use Rattle.process_checks.specs.Calls.{process_at, call_sites_of, call_graph_of}
+use Rattle.process_checks.specs.Distances.{Reach, one_marked, marked_processes, with_caller, with_call, with_calls}
 use Rattle.process_checks.specs.Graph.{IsCallAt, calls_at}
-use Rattle.process_checks.specs.GraphView.{items_of, lists_of}
+use Rattle.process_checks.specs.GraphView.{members_of_list, lists_of}
 use Rattle.process_checks.specs.declared.calls.CallSite.{CallSite}
-use Rattle.process_checks.specs.declared.mismatches.ExitFault.{ExitFault}
-use Rattle.process_checks.proofs.BlameLemmas.{blames_front}
 
 pub lists_set : (lists : List (Vec ℕ Global)) (i : ℕ) (v : Vec ℕ Global) → lists_of (set lists i v) ≡ set (lists_of lists) i v.items
 lists_set [] i v = refl
@@ -23,7 +17,7 @@ lists_set (w ∷ lists) (suc i) v = ap (λ (ls : List (List ℕ)). w.items ∷ l
 pub list_there : (lists : List (Vec ℕ Global)) (i : ℕ) (v : Vec ℕ Global) → i < length lists → v ≡ get_or lists i v
     → calls_at (lists_of lists) i ≡ v.items
 list_there [] i v there is = absurd (omega (arith, there))
-list_there (w ∷ lists) zero v there is = ap items_of (sym is)
+list_there (w ∷ lists) zero v there is = ap members_of_list (sym is)
 list_there (w ∷ lists) (suc i) v there is = list_there lists i v (omega (arith, there)) is
 
 -- A caller more, in the code's lists.
@@ -34,14 +28,6 @@ caller_put lists process caller old new there is more =
     lists_set lists process new
     ∙ ap (λ (ns : List ℕ). set (lists_of lists) process ns)
     (more ∙ ap (λ (ns : List ℕ). ns ++ caller ∷ []) (sym (list_there lists process old there is)))
-
-pub empty_more : (lists : List (Vec ℕ Global)) (v : Vec ℕ Global) (n : ℕ) → lists_of lists ≡ replicate n [] → v.items ≡ []
-    → lists_of (lists ++ v ∷ []) ≡ replicate (n + 1) []
-empty_more lists v n before none =
-    map-append items_of lists (v ∷ [])
-    ∙ ap (λ (ls : List (List ℕ)). ls ++ v.items ∷ []) before
-    ∙ ap (λ (l : List ℕ). replicate n [] ++ l ∷ []) none
-    ∙ replicate_more n []
 
 -- One call of a list of calls at a time.
 next_call : (caller : ℕ) (called : List ℕ) (i : ℕ) (callers : List (List ℕ)) → i < length called
@@ -60,43 +46,31 @@ call_added caller i called old new whole end there long is before =
     ∙ before
 
 next_mark : (level : ℕ) (processes : List ℕ) (i : ℕ) (reach : Reach) → i < length processes
-    → all_marked level (drop (suc i) processes) (one_marked level (slice_get processes i) reach) ≡ all_marked level (drop i processes) reach
+    → marked_processes level (drop (suc i) processes) (one_marked level (slice_get processes i) reach)
+    ≡ marked_processes level (drop i processes) reach
 next_mark level [] i reach there = absurd (omega (arith, there))
 next_mark level (p ∷ processes) zero reach there = refl
 next_mark level (p ∷ processes) (suc i) reach there = next_mark level processes i reach (omega (arith, there))
 
 pub mark_added : (level i : ℕ) (processes : List ℕ) (old new whole : Reach) (end : ℕ) → i < end → end ≡ length processes
-    → new ≡ one_marked level (slice_get processes i) old → all_marked level (drop i processes) old ≡ whole
-    → all_marked level (drop (i + 1) processes) new ≡ whole
+    → new ≡ one_marked level (slice_get processes i) old → marked_processes level (drop i processes) old ≡ whole
+    → marked_processes level (drop (i + 1) processes) new ≡ whole
 mark_added level i processes old new whole end there long is before =
-    ap (λ (n : ℕ). all_marked level (drop n processes) new) (add-one i)
-    ∙ ap (λ (r : Reach). all_marked level (drop (suc i) processes) r) is
+    ap (λ (n : ℕ). marked_processes level (drop n processes) new) (add-one i)
+    ∙ ap (λ (r : Reach). marked_processes level (drop (suc i) processes) r) is
     ∙ next_mark level processes i old (omega (arith, there, long))
     ∙ before
 
 -- As many lists.
 pub as_many_lists : (lists : List (Vec ℕ Global)) → length (lists_of lists) ≡ length lists
-as_many_lists lists = length-map lists items_of
-
--- The definition that is looked at is the next of those that are left.
-pub blames_next : (processes items : List Process) (i : ℕ) (p : Process) (whole : List Disagreement) (fault : ExitFault) → i < length items
-    → p ≡ get_or items i p → of_processes processes (drop i items) ≡ whole
-    → Blames (of_definition processes p.place p.body (functionality_of p.exit)) fault → Blames whole fault
-blames_next processes items i p whole fault there is before blamed =
-    subst (λ (ds : List Disagreement). Blames ds fault) before
-    (subst (λ (ps : List Process). Blames (of_processes processes ps) fault) (sym here)
-    (blames_front (of_definition processes p.place p.body (functionality_of p.exit))
-    (of_processes processes (drop (suc i) items)) fault blamed))
-  where
-    here : drop i items ≡ p ∷ drop (suc i) items
-    here = drop-cons items i p there ∙ ap (λ (q : Process). q ∷ drop (suc i) items) (sym is)
+as_many_lists lists = length-map lists members_of_list
 
 -- The call that a position of the graph stands for.
 pub record SiteThere (processes : List Process) (process position : ℕ) : Type 0 where
   pub caller : Process
   pub found : slice_get processes process ≡ Some caller
   pub site : CallSite
-  pub stands : slice_get (calls_of caller.body) position ≡ Some site
+  pub stands : slice_get (call_sites_of caller.body) position ≡ Some site
 
 site_in : (sites : List CallSite) (position called : ℕ) → slice_get (map process_at sites) position ≡ Some called
     → (site : CallSite) × (slice_get sites position ≡ Some site)
@@ -104,11 +78,12 @@ site_in [] position called at = absurd (none-some called at)
 site_in (s ∷ sites) zero called at = (s, refl)
 site_in (s ∷ sites) (suc position) called at = site_in sites position called at
 
-pub site_there : (processes : List Process) (process position called : ℕ) → IsCallAt (graph_of processes) process position called
+pub site_there : (processes : List Process) (process position called : ℕ) → IsCallAt (call_graph_of processes) process position called
     → SiteThere processes process position
 site_there [] process position called at = absurd (none-some called at)
 site_there (p ∷ processes) zero position called at =
-    let found : (site : CallSite) × (slice_get (calls_of p.body) position ≡ Some site) = site_in (calls_of p.body) position called at in
+    let found : (site : CallSite) × (slice_get (call_sites_of p.body) position ≡ Some site) =
+    site_in (call_sites_of p.body) position called at in
     record { caller = p; found = refl; site = found.0; stands = found.1 }
 site_there (p ∷ processes) (suc process) position called at = later (site_there processes process position called at)
   where

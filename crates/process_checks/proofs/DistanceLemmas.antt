@@ -3,7 +3,7 @@ use Rattle.std.proofs.Common.{◌≡◌, ◌≢◌, ◌<◌, ◌≤◌, ◌⊎�
 use Rattle.std.proofs.lemmas.List.{get_or-set_same, get_or-set_other, length-replicate}
 use Rattle.std.proofs.lemmas.Option.{same_Some, none-some}
 use Rattle.lotos_base.proofs.Members.{at_front}
-use Rattle.process_checks.specs.Distances.{Reach, reach_of, marked, marked_by, all_marked, callers_marked, far_ones, none_known}
+use Rattle.process_checks.specs.Distances.{Reach, reach_of, marked, marked_by, marked_processes, callers_marked, far_ones, none_known}
 use Rattle.process_checks.specs.Graph.{calls_at}
 use Rattle.process_checks.specs.Ways.{AreCallers, AreDistances, Calls, IsListed, IsWay, distance_in}
 use Rattle.process_checks.proofs.ListLemmas.{same_or_other, within, in_longer, stands_last}
@@ -167,11 +167,11 @@ all_marked_then graph to level q processes r s t first rest = record {
 
 pub all_marked_more : (graph : List (List ℕ)) (to level : ℕ) (processes : List ℕ) (r : Reach)
     → ((p : ℕ) → IsListed processes p → IsWay graph p level to) → ((p : ℕ) → IsListed processes p → p < length r.distances)
-    → AllMarked graph to level r (all_marked level processes r) processes
+    → AllMarked graph to level r (marked_processes level processes r) processes
 all_marked_more graph to level [] r way there =
     record { more = more_refl graph to level r; have = λ p listed. absurd (none-some p listed.1) }
 all_marked_more graph to level (q ∷ processes) r way there =
-    all_marked_then graph to level q processes r (marked level q r) (all_marked level processes (marked level q r))
+    all_marked_then graph to level q processes r (marked level q r) (marked_processes level processes (marked level q r))
     (marked_more graph to level q r (way q (0, refl)) (there q (0, refl)))
     (all_marked_more graph to level processes (marked level q r) (λ p listed. way p (suc listed.0, listed.1))
     (λ p listed.
@@ -188,7 +188,7 @@ pub record CallersMarked (graph : List (List ℕ)) (to level : ℕ) (before afte
 -- The callers of one process.
 callers_of_one : (graph callers : List (List ℕ)) (to level q : ℕ) (r : Reach) → AreCallers graph callers
     → length r.distances ≡ length graph → q < length graph → IsWay graph q level to
-    → AllMarked graph to (suc level) r (all_marked (suc level) (calls_at callers q) r) (calls_at callers q)
+    → AllMarked graph to (suc level) r (marked_processes (suc level) (calls_at callers q) r) (calls_at callers q)
 callers_of_one graph callers to level q r reversed sized there way =
     all_marked_more graph to (suc level) (calls_at callers q) r (λ c listed. (q, ((reversed q c there).0 listed, way)))
     (λ c listed.
@@ -217,11 +217,12 @@ pub callers_more : (graph callers : List (List ℕ)) (to level : ℕ) (processes
 callers_more graph callers to level [] r reversed sized within_ way =
     record { more = more_refl graph to (suc level) r; have = λ p caller listed calls. absurd (none-some p listed.1) }
 callers_more graph callers to level (q ∷ processes) r reversed sized within_ way =
-    let first : AllMarked graph to (suc level) r (all_marked (suc level) (calls_at callers q) r) (calls_at callers q) =
+    let first : AllMarked graph to (suc level) r (marked_processes (suc level) (calls_at callers q) r) (calls_at callers q) =
     callers_of_one graph callers to level q r reversed sized (within_ q (0, refl)) (way q (0, refl)) in
-    callers_then graph callers to level q processes r (all_marked (suc level) (calls_at callers q) r)
-    (callers_marked callers (suc level) processes (all_marked (suc level) (calls_at callers q) r)) reversed (within_ q (0, refl)) first
-    (callers_more graph callers to level processes (all_marked (suc level) (calls_at callers q) r) reversed (first.more.sized ∙ sized)
+    callers_then graph callers to level q processes r (marked_processes (suc level) (calls_at callers q) r)
+    (callers_marked callers (suc level) processes (marked_processes (suc level) (calls_at callers q) r)) reversed
+    (within_ q (0, refl)) first
+    (callers_more graph callers to level processes (marked_processes (suc level) (calls_at callers q) r) reversed (first.more.sized ∙ sized)
     (λ p listed. within_ p (suc listed.0, listed.1)) (λ p listed. way p (suc listed.0, listed.1)))
 
 -- All processes with ways of so many calls or fewer have their distances, and no others; the frontier has those of just

@@ -1,5 +1,4 @@
 pub mod AgreementLemmas
-pub mod BlameLemmas
 pub mod CallLemmas
 pub mod CallerLemmas
 pub mod CodeLemmas

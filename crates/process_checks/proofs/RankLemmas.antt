@@ -6,7 +6,7 @@ use Rattle.behaviour_semantics.specs.Guardedness.{IsGuarded}
 use Rattle.behaviour_semantics.proofs.RankLemmas.{no_cycle}
 use Rattle.behaviour_tree.specs.DefinitionView.{specification_of}
 use Rattle.behaviour_tree.specs.declared.definitions.Spec.{Spec}
-use Rattle.process_checks.specs.Calls.{called_by, graph_of}
+use Rattle.process_checks.specs.Calls.{called_by, call_graph_of}
 use Rattle.process_checks.specs.Graph.{IsCallAt, LiesOnCycle}
 use Rattle.process_checks.specs.Ranks.{AreRanksOf, IsCyclic, RefusesRanks, rank_in}
 use Rattle.process_checks.specs.Ways.{AreDistances, Calls, CallsHaveCycle, RanksOf, distance_in}
@@ -19,7 +19,7 @@ use Rattle.process_checks.proofs.ListLemmas.{same_or_other}
 use Rattle.process_checks.proofs.WayLemmas.{way_of_leads}
 
 -- The ranks of the graph are those of the specification.
-pub ranks_of_graph : (spec : Spec) (graph : List (List ℕ)) (ranks : Ranks) (numbers : List ℕ) → graph ≡ graph_of spec.processes.items
+pub ranks_of_graph : (spec : Spec) (graph : List (List ℕ)) (ranks : Ranks) (numbers : List ℕ) → graph ≡ call_graph_of spec.processes.items
     → RanksOf graph numbers → ranks.of_process.items ≡ numbers → AreRanksOf spec ranks
 ranks_of_graph spec graph ranks numbers is falling made = record {
   covers =
@@ -51,7 +51,7 @@ pub refused_cycle : (spec : Spec) (fault : RankFault) → RefusesRanks spec faul
     → ⊥
 refused_cycle spec (Unguarded place process cycle) refuses cyclic guarded =
     not_guarded spec.processes.items
-    (cycle_of (graph_of spec.processes.items) process refuses.position refuses.first.on_cycle) guarded
+    (cycle_of (call_graph_of spec.processes.items) process refuses.position refuses.first.on_cycle) guarded
 refused_cycle spec NoMemory refuses cyclic guarded = absurd cyclic
 
 -- One process more has no call on a cycle.

@@ -4,7 +4,7 @@ use Rattle.std.proofs.lemmas.Option.{none-some, slice_get_within}
 use Rattle.std.proofs.lemmas.Bool.{cases_lt}
 use Rattle.process_checks.specs.Graph.{IsCallAt}
 use Rattle.process_checks.specs.Ways.{CallsHaveCycle, RanksOf}
-use Rattle.process_checks.specs.Search.{status_at, IsRanked, new_ones, position_of, rank_of, CallsReach, IsSearch, IsLatest, IsPending, IsSoundSearch, left_in, AreKept, IsStep, IsRoundFrom}
+use Rattle.process_checks.specs.Search.{status_at, IsRanked, new_ones, position_of, rank_of, CallsReach, IsSearch, IsLatest, IsPending, IsSoundSearch, left_in, AreKept, IsStep}
 use Rattle.process_checks.specs.declared.search.Pending.{Pending}
 use Rattle.process_checks.specs.declared.search.Search.{Search}
 use Rattle.process_checks.specs.declared.search.Status.{Status}
@@ -172,22 +172,6 @@ ranked graph before after p s latest settled_from statuses_are chain_was next_is
         ap (λ (ns : List ℕ). length ns) chain_was ∙ length-append after.chain.items (p ∷ []) in
         omega (arith, counted, same, longer)
 
--- The next rank fits its type.
-pub rank_fits : (graph : List (List ℕ)) (statuses : List Status) (chain : List ℕ) (next p : ℕ) → IsSearch graph statuses chain next
-    → IsLatest chain p → next ≤ length graph
-rank_fits graph statuses chain next p s latest =
-    let room : next + new_ones statuses + length chain ≡ length graph + 1 = s.room in
-    let longer : length chain ≡ length latest.0 + 1 = ap (λ (ns : List ℕ). length ns) latest.1 ∙ length-append latest.0 (p ∷ []) in
-    omega (arith, room, longer)
-
--- One step behind another.
-pub steps : (graph : List (List ℕ)) (before between after : Search) → IsStep graph before between → IsStep graph between after
-    → IsStep graph before after
-steps graph before between after f g = record { sound = g.sound; kept = λ q is. f.kept q (g.kept q is) }
-
-pub no_step : (graph : List (List ℕ)) (search : Search) → IsSoundSearch graph search → IsStep graph search search
-no_step graph search s = record { sound = s; kept = λ q is. is }
-
 -- A process comes onto an empty chain.
 pub begun_from : (graph : List (List ℕ)) (before after : Search) (root : ℕ) → IsSoundSearch graph before → before.chain.items ≡ []
     → status_at before.statuses.items root ≡ status.New
@@ -199,26 +183,6 @@ begun_from graph before after root s empty new statuses_are chain_is next_is =
     (subst (λ (n : ℕ). IsSearch graph (set before.statuses.items root (status.Open 0)) (before.chain.items ++ root ∷ []) n) (sym next_is)
     (entered graph before.statuses.items before.chain.items before.next root s new
     (λ i p at. absurd (none-some p (ap (λ (ns : List ℕ). slice_get ns i) (sym empty) ∙ at))))))
-
-pub round_from : (graph : List (List ℕ)) (before between after : Search) (root : ℕ) → IsSoundSearch graph before
-    → status_at before.statuses.items root ≡ status.New
-    → between.statuses.items ≡ set before.statuses.items root (status.Open 0) → IsStep graph between after → after.chain.items ≡ []
-    → IsRoundFrom graph before after root
-round_from graph before between after root s new statuses_are step empty = record {
-  sound = step.sound;
-  kept = λ q is.
-      kept_put before.statuses.items root (status.Open 0) (open_not_new 0) there q
-      (ap (λ (ss : List Status). status_at ss q) (sym statuses_are) ∙ step.kept q is);
-  idle = empty;
-  reached =
-      λ is. open_not_new 0
-      (sym
-      (ap (λ (ss : List Status). status_at ss root) statuses_are ∙ set_here before.statuses.items root (status.Open 0) there)
-      ∙ step.kept root is);
-}
-  where
-    there : root < length before.statuses.items
-    there = unranked_within before.statuses.items root status.New new (new_not_ranked 0)
 
 -- The walk over no process yet, as the code makes it.
 pub begun_made : (graph : List (List ℕ)) (search : Search) (n : ℕ) → n ≡ length graph → search.statuses.items ≡ replicate n status.New
@@ -238,13 +202,3 @@ ranks_made graph search made root s empty known all_done is =
     (ranks_fall graph search.statuses.items search.next
     (subst (λ (ns : List ℕ). IsSearch graph search.statuses.items ns search.next) empty s)
     (λ p there. known p (omega (arith, there, all_done))))
-
--- A round more.
-pub round_more : (graph : List (List ℕ)) (before after : Search) (root : ℕ) → IsRoundFrom graph before after root
-    → ((p : ℕ) → p < root → status_at before.statuses.items p ≡ status.New → ⊥)
-    → (p : ℕ) → p < root + 1 → status_at after.statuses.items p ≡ status.New → ⊥
-round_more graph before after root round known p lt new = by (same_or_other p root)
-  where
-    by : (p ≡ root) ⊎ (p ≢ root) → ⊥
-    by (inl same) = round.reached (subst (λ (n : ℕ). status_at after.statuses.items n ≡ status.New) same new)
-    by (inr apart) = known p (omega (arith, lt, apart)) (round.kept p new)

@@ -6,33 +6,33 @@ use Rattle.behaviour_tree.specs.declared.definitions.Process.{Process}
 use Rattle.process_checks.specs.declared.calls.CallSite.{CallSite}
 
 -- The calls.
-abbrev pub calls_of : Beh → List CallSite
-calls_of Stop = []
-calls_of (Exit values) = []
-calls_of (Action' _ _ _ _ next) = []
-calls_of (Inner' _ next) = []
-calls_of (Guard' _ _ next) = calls_of next
-calls_of (Choice' _ _ left _ right) = calls_of left ++ calls_of right
-calls_of (Parallel' _ _ _ left _ right) = calls_of left ++ calls_of right
-calls_of (Hide' _ _ next) = calls_of next
-calls_of (Enable' _ _ left _ _ right) = calls_of left
-calls_of (Disable' _ _ left _ right) = calls_of left ++ calls_of right
-calls_of (Let' _ _ next) = calls_of next
-calls_of (ChooseValue' _ _ next) = calls_of next
-calls_of (ChooseGate' _ _ _ next) = calls_of next
-calls_of (ParGate' _ _ _ _ next) = calls_of next
-calls_of (Call place process _ _) = record { place = place; process = process } ∷ []
+abbrev pub call_sites_of : Beh → List CallSite
+call_sites_of Stop = []
+call_sites_of (Exit values) = []
+call_sites_of (Action' _ _ _ _ next) = []
+call_sites_of (Inner' _ next) = []
+call_sites_of (Guard' _ _ next) = call_sites_of next
+call_sites_of (Choice' _ _ left _ right) = call_sites_of left ++ call_sites_of right
+call_sites_of (Parallel' _ _ _ left _ right) = call_sites_of left ++ call_sites_of right
+call_sites_of (Hide' _ _ next) = call_sites_of next
+call_sites_of (Enable' _ _ left _ _ right) = call_sites_of left
+call_sites_of (Disable' _ _ left _ right) = call_sites_of left ++ call_sites_of right
+call_sites_of (Let' _ _ next) = call_sites_of next
+call_sites_of (ChooseValue' _ _ next) = call_sites_of next
+call_sites_of (ChooseGate' _ _ _ next) = call_sites_of next
+call_sites_of (ParGate' _ _ _ _ next) = call_sites_of next
+call_sites_of (Call place process _ _) = record { place = place; process = process } ∷ []
 
 -- The processes that a body calls unguarded.
 abbrev pub process_at : CallSite → ℕ
 process_at site = site.process
 
 abbrev pub called_in : Beh → List ℕ
-called_in body = map process_at (calls_of body)
+called_in body = map process_at (call_sites_of body)
 
 -- The graph of unguarded calls: for each process those that its body calls, in the order of the text.
 abbrev pub called_by : Process → List ℕ
 called_by process = called_in process.body
 
-abbrev pub graph_of : List Process → List (List ℕ)
-graph_of processes = map called_by processes
+abbrev pub call_graph_of : List Process → List (List ℕ)
+call_graph_of processes = map called_by processes

@@ -21,9 +21,9 @@ abbrev pub marked : ℕ → ℕ → Reach → Reach
 marked level process reach = marked_by (distance_in reach.distances process) level process reach
 
 -- The same of each process of a list, and of each that calls one of the list.
-abbrev pub all_marked : ℕ → List ℕ → Reach → Reach
-all_marked level [] reach = reach
-all_marked level (process ∷ processes) reach = all_marked level processes (marked level process reach)
+abbrev pub marked_processes : ℕ → List ℕ → Reach → Reach
+marked_processes level [] reach = reach
+marked_processes level (process ∷ processes) reach = marked_processes level processes (marked level process reach)
 
 abbrev pub one_marked : ℕ → Option ℕ → Reach → Reach
 one_marked level None reach = reach
@@ -32,7 +32,7 @@ one_marked level (Some process) reach = marked level process reach
 abbrev pub callers_marked : List (List ℕ) → ℕ → List ℕ → Reach → Reach
 callers_marked callers level [] reach = reach
 callers_marked callers level (process ∷ processes) reach =
-    callers_marked callers level processes (all_marked level (calls_at callers process) reach)
+    callers_marked callers level processes (marked_processes level (calls_at callers process) reach)
 
 -- No distance is known.
 abbrev pub none_known : ℕ → List (Option ℕ)

@@ -5,7 +5,7 @@ use Rattle.behaviour_semantics.specs.Rank.{RanksFall}
 use Rattle.behaviour_tree.specs.DefinitionView.{specification_of}
 use Rattle.behaviour_tree.specs.declared.definitions.Process.{Process}
 use Rattle.behaviour_tree.specs.declared.definitions.Spec.{Spec}
-use Rattle.process_checks.specs.Calls.{calls_of, graph_of}
+use Rattle.process_checks.specs.Calls.{call_sites_of, call_graph_of}
 use Rattle.process_checks.specs.Graph.{IsFirstOnCycle, IsKeptCycle}
 use Rattle.process_checks.specs.declared.calls.CallSite.{CallSite}
 use Rattle.process_checks.specs.declared.rank_table.Ranks.{Ranks}
@@ -27,7 +27,7 @@ pub record IsSiteAt (spec : Spec) (process position : ℕ) (place : Place) : Typ
   pub caller : Process
   pub found : slice_get spec.processes.items process ≡ Some caller
   pub site : CallSite
-  pub stands : slice_get (calls_of caller.body) position ≡ Some site
+  pub stands : slice_get (call_sites_of caller.body) position ≡ Some site
   pub placed : site.place ≡ place
 
 -- The place is that of the first call that lies on a cycle, the process the one whose body has that call, and the cycle
@@ -35,8 +35,8 @@ pub record IsSiteAt (spec : Spec) (process position : ℕ) (place : Place) : Typ
 pub record IsUnguarded (spec : Spec) (place : Place) (process : ℕ) (cycle : List ℕ) : Type 0 where
   pub position : ℕ
   pub stands : IsSiteAt spec process position place
-  pub first : IsFirstOnCycle (graph_of spec.processes.items) process position
-  pub kept : IsKeptCycle (graph_of spec.processes.items) process position cycle
+  pub first : IsFirstOnCycle (call_graph_of spec.processes.items) process position
+  pub kept : IsKeptCycle (call_graph_of spec.processes.items) process position cycle
 
 -- What a refusal says.
 abbrev pub RefusesRanks : Spec → RankFault → Type 0

@@ -1,6 +1,6 @@
 //! The unguarded calls of bodies, and the graph that they make.
 
-ghost use Rattle.process_checks.specs.Calls.{called_in, calls_of, graph_of};
+ghost use Rattle.process_checks.specs.Calls.{called_in, call_sites_of, call_graph_of};
 ghost use Rattle.process_checks.specs.GraphView.{lists_of};
 ghost use Rattle.std.specs.Prelude.{◌≡◌, ◌++◌, IfOk, map};
 
@@ -19,7 +19,7 @@ pub struct CallSite {
 
 /// Appends the unguarded calls of the behaviour in the order of the text.
 pub fn collect(behaviour: &Beh, into: &mut Vec<CallSite>) -> Result<(), NoMemory>
-    ensures { IfOk result (λ _. into.new.items ≡ into.old.items ++ calls_of behaviour.now) }
+    ensures { IfOk result (λ _. into.new.items ≡ into.old.items ++ call_sites_of behaviour.now) }
 {
     match behaviour {
         Beh::Stop => Ok(()),
@@ -54,7 +54,7 @@ pub fn collect(behaviour: &Beh, into: &mut Vec<CallSite>) -> Result<(), NoMemory
 
 /// The unguarded calls of a body.
 pub fn sites(alloc: Global, body: &Beh) -> Result<Vec<CallSite>, NoMemory>
-    ensures { IfOk result (λ made. made.items ≡ calls_of body.now) }
+    ensures { IfOk result (λ made. made.items ≡ call_sites_of body.now) }
 {
     let mut made = Vec::new(alloc);
     collect(body, &mut made)?;
@@ -75,7 +75,7 @@ fn called(alloc: Global, body: &Beh) -> Result<Vec<u32>, NoMemory>
 
 /// The graph of unguarded calls.
 pub fn call_graph(alloc: Global, processes: &Vec<Process>) -> Result<Vec<Vec<u32>>, NoMemory>
-    ensures { IfOk result (λ made. lists_of made.items ≡ graph_of processes.now.items) }
+    ensures { IfOk result (λ made. lists_of made.items ≡ call_graph_of processes.now.items) }
 {
     let mut made = Vec::with_capacity(alloc, processes.len())?;
     for process in processes {

@@ -1,7 +1,7 @@
 //! Distances to a process in a graph of calls, by a walk in breadth against the calls.
 
 ghost use Rattle.process_checks.specs.Distances.{
-  all_marked,
+  marked_processes,
   callers_marked,
   marked,
   none_known,
@@ -174,7 +174,7 @@ fn mark_callers(
     next: &mut Vec<u32>,
 ) -> Result<(), NoMemory>
     ensures { IfOk result (λ _. reach_of distances.new.items next.new.items
-        ≡ all_marked level (calls_at (lists_of callers.now.items) process)
+        ≡ marked_processes level (calls_at (lists_of callers.now.items) process)
         (reach_of distances.old.items next.old.items)) }
 {
     for position in 0..call_count(callers, process) {

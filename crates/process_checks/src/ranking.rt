@@ -2,7 +2,7 @@
 
 ghost use Rattle.behaviour_tree.specs.DefinitionView.{specification_of};
 ghost use Rattle.behaviour_semantics.specs.Guardedness.{IsGuarded};
-ghost use Rattle.process_checks.specs.Calls.{graph_of};
+ghost use Rattle.process_checks.specs.Calls.{call_graph_of};
 ghost use Rattle.process_checks.specs.Cycles.{IsFirstBack};
 ghost use Rattle.process_checks.specs.Graph.{IsCallAt, LiesOnCycle};
 ghost use Rattle.process_checks.specs.GraphView.{lists_of};
@@ -51,7 +51,7 @@ pub fn ranks(alloc: Global, spec: &Spec) -> Result<Ranks, RankFault>
 
 // The refusal of a graph that has a cycle.
 fn unguarded(alloc: Global, spec: &Spec, graph: &Vec<Vec<u32>>) -> Result<RankFault, NoMemory>
-    requires graph { lists_of graph.now.items ≡ graph_of spec.now.processes.items }
+    requires graph { lists_of graph.now.items ≡ call_graph_of spec.now.processes.items }
     requires cyclic { CallsHaveCycle (lists_of graph.now.items) }
     requires room { length graph.now.items + 1 < 2 ^ 32 }
     ensures { IfOk result (λ fault. RefusesRanks spec.now fault) }
@@ -75,7 +75,7 @@ fn refusal(
     process: u32,
     back: Back,
 ) -> Result<RankFault, NoMemory>
-    requires graph { lists_of graph.now.items ≡ graph_of spec.now.processes.items }
+    requires graph { lists_of graph.now.items ≡ call_graph_of spec.now.processes.items }
     requires distances { AreDistances (lists_of graph.now.items) process distances.now.items }
     requires back { IsFirstBack (lists_of graph.now.items) distances.now.items process back }
     requires first { (earlier k : ℕ) → earlier < process
@@ -93,7 +93,8 @@ fn refusal(
 
 // The place of a call.
 fn place_of(alloc: Global, spec: &Spec, process: u32, position: usize) -> Result<Place, NoMemory>
-    requires { (called : ℕ) × IsCallAt (graph_of spec.now.processes.items) process position called }
+    requires { (called : ℕ) × IsCallAt (call_graph_of spec.now.processes.items) process
+        position called }
     ensures { IfOk result (λ place. IsSiteAt spec.now process position place) }
 {
     let calls = sites(alloc, &spec.processes[process as usize].body)?;

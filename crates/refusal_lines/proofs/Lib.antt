@@ -1,4 +1,3 @@
-pub mod ListLemmas
 pub mod OutcomeLemmas
 pub mod WordLemmas
 pub mod ValueLemmas

@@ -1,5 +1,5 @@
 -- Reading the terms one after another at the sorts of the parameters.
-use Rattle.std.proofs.Common.{arith, refl, ap, sym, ◌∙◌, ◌≡◌, ◌≢◌, inl, inr, subst, ℕ, ◌+◌, ◌<◌, ◌≤◌, List, [], ◌∷◌, ◌++◌, map, length, drop, get_or, append_assoc, append-nil, Some}
+use Rattle.std.proofs.Common.{arith, ap, sym, ◌∙◌, ◌≡◌, ◌≢◌, inr, subst, ℕ, ◌+◌, ◌<◌, ◌≤◌, List, [], ◌∷◌, ◌++◌, map, length, drop, get_or, append_assoc, append-nil}
 use Rattle.std.specs.Prelude.{Vec, Result, Ok, Err, MatchResult}
 use Rattle.std.specs.declared.alloc.Global.{Global}
 use Rattle.std.proofs.Math.ListN.{drop_of_length-le}
@@ -8,13 +8,10 @@ use Rattle.lotos_base.proofs.Pieces.{next_member}
 use Rattle.lotos_base.specs.Signature.{Signature}
 use Rattle.lotos_base.specs.Term.{Term}
 use Rattle.sort_terms.specs.ReadingOutcome as reading
-use Rattle.sort_terms.specs.ReadingOutcome.{ReadingIs}
-use Rattle.sort_terms.specs.RefusalView.{UnlessNoMemory}
 use Rattle.sort_terms.specs.SignatureView.{signature_of}
 use Rattle.sort_terms.specs.declared.equations.Variable.{Variable}
 use Rattle.sort_terms.specs.declared.signatures.Signature as code_signature
 use Rattle.sort_terms.specs.declared.sorted.Sorted.{Sorted}
-use Rattle.sort_terms.specs.declared.sort_faults.SortFault.{SortFault}
 use Rattle.sort_terms.specs.declared.sort_faults.SortFault.TheVariants as cause
 use Rattle.behaviour_tree.specs.BehaviourTerms.{profiles_of}
 use Rattle.behaviour_tree.specs.BehaviourView.{terms_of}
@@ -25,8 +22,8 @@ use Rattle.refusal_lines.specs.Refusal.{Refusal, start_values}
 use Rattle.refusal_lines.specs.declared.faults.StartFault.{StartFault}
 use Rattle.refusal_lines.specs.declared.faults.StartFault.TheVariants.{Refused, NoMemory}
 use Rattle.refusal_lines.specs.declared.start_words.WordTerm as code
-use Rattle.refusal_lines.specs.StartValues.{WordTerm, HaveTerms, HaveWordFault, HasStartValue, HaveValues, IsTermFault, HaveTermFault, Start, AreStartValues, IsStartFault, misread, miscounted, misfitting}
-use Rattle.refusal_lines.specs.StartView.{word_term_of, parameter_sorts, start_of, FailsAs, TellsTerm, TellsRefusal}
+use Rattle.refusal_lines.specs.StartValues.{WordTerm, HaveTerms, HasStartValue, HaveValues, HaveTermFault, Start, AreStartValues, IsStartFault, miscounted, misfitting}
+use Rattle.refusal_lines.specs.StartView.{word_term_of, parameter_sorts, given_start_of, FailsAs, TellsRefusal}
 
 -- ---- One after another
 
@@ -35,9 +32,6 @@ pub record ValuedSoFar (signature : Signature) (sorts : List ℕ) (terms : List 
     (terms_left : List WordTerm) (values : List Term) : Type 0 where
   pub fine : (others : List Term) → HaveValues signature sorts_left terms_left others → HaveValues signature sorts terms (values ++ others)
   pub faulty : (refusal : Refusal) → HaveTermFault signature sorts_left terms_left refusal → HaveTermFault signature sorts terms refusal
-
-pub none_valued : (signature : Signature) (sorts : List ℕ) (terms : List WordTerm) → ValuedSoFar signature sorts terms sorts terms []
-none_valued signature sorts terms = record { fine = λ others is. is; faulty = λ refusal is. is }
 
 pub one_valued : (signature : Signature) (sorts : List ℕ) (terms : List WordTerm) (sort : ℕ) (sorts_left : List ℕ) (given : WordTerm)
     (terms_left : List WordTerm) (values more : List Term) (value : Term)
@@ -55,14 +49,6 @@ pub all_valued : (signature : Signature) (sorts : List ℕ) (terms : List WordTe
     → ValuedSoFar signature sorts terms [] [] values → HaveValues signature sorts terms values
 all_valued signature sorts terms values so_far =
     subst (λ (vs : List Term). HaveValues signature sorts terms vs) (append-nil values) (so_far.fine [] tt)
-
-pub one_misfits : (signature : Signature) (sorts : List ℕ) (terms : List WordTerm) (sort : ℕ) (sorts_left : List ℕ) (given : WordTerm)
-    (terms_left : List WordTerm) (values : List Term) (fault : StartFault)
-    → ValuedSoFar signature sorts terms (sort ∷ sorts_left) (given ∷ terms_left) values
-    → FailsAs (IsTermFault signature sort given) fault → FailsAs (HaveTermFault signature sorts terms) fault
-one_misfits signature sorts terms sort sorts_left given terms_left values (Refused found) so_far is =
-    (is.0, so_far.faulty is.0 (inl is.1), is.2)
-one_misfits signature sorts terms sort sorts_left given terms_left values NoMemory so_far is = tt
 
 -- what is left behind an index
 abbrev pub sorts_at : ℕ → List Variable → List ℕ
@@ -105,27 +91,7 @@ valued_whole signature parameters terms index values past many so_far =
     ValuedSoFar signature (parameter_sorts parameters) (map word_term_of terms) (sorts_at index parameters) ts values)
     (no_terms terms index past) so_far))
 
--- ---- A term
-
-pub term_misfits : (signature : Signature) (sort : ℕ) (given : WordTerm) (fault : SortFault) (answer : StartFault)
-    → UnlessNoMemory fault (λ r. ReadingIs signature [] given.term (Some sort) (reading.refused r))
-    → TellsTerm given.word fault answer → FailsAs (IsTermFault signature sort given) answer
-term_misfits signature sort given (cause.UnknownName place) (Refused found) is tells = (_, (_, is, refl), tells)
-term_misfits signature sort given (cause.UnknownSort place) (Refused found) is tells = (_, (_, is, refl), tells)
-term_misfits signature sort given (cause.NoReading place) (Refused found) is tells = (_, (_, is, refl), tells)
-term_misfits signature sort given (cause.TwoReadings place) (Refused found) is tells = (_, (_, is, refl), tells)
-term_misfits signature sort given cause.NoMemory (Refused found) is tells = absurd tells
-term_misfits signature sort given (cause.UnknownName place) NoMemory is tells = tt
-term_misfits signature sort given (cause.UnknownSort place) NoMemory is tells = tt
-term_misfits signature sort given (cause.NoReading place) NoMemory is tells = tt
-term_misfits signature sort given (cause.TwoReadings place) NoMemory is tells = tt
-term_misfits signature sort given cause.NoMemory NoMemory is tells = tt
-
 -- ---- All of it
-
-pub fails_misread : (start : Start) (fault : StartFault) → FailsAs (HaveWordFault 1 start.words) fault → FailsAs (IsStartFault start) fault
-fails_misread start (Refused found) is = (is.0, misread is.1, is.2)
-fails_misread start NoMemory is = tt
 
 pub fails_misfitting : (start : Start) (terms : List WordTerm) (fault : StartFault) → HaveTerms 1 start.words terms
     → length start.sorts ≡ length terms → FailsAs (HaveTermFault start.signature start.sorts terms) fault
@@ -154,9 +120,9 @@ as_many_terms terms = length-map _ _
 pub miscounted_whole : (signature : code_signature.Signature) (parameters : List Variable) (words : List (List ℕ))
     (terms : List code.WordTerm) (wanted given : ℕ) (fault : StartFault) → HaveTerms 1 words (map word_term_of terms)
     → wanted ≡ length parameters → given ≡ length terms → given ≢ wanted → TellsRefusal (start_values wanted given) fault
-    → FailsAs (IsStartFault (start_of signature parameters words)) fault
+    → FailsAs (IsStartFault (given_start_of signature parameters words)) fault
 miscounted_whole signature parameters words terms wanted given fault read many few differ tells =
-    fails_miscounted (start_of signature parameters words) (map word_term_of terms) wanted given fault read
+    fails_miscounted (given_start_of signature parameters words) (map word_term_of terms) wanted given fault read
     (many ∙ sym (as_many_sorts parameters)) (few ∙ sym (as_many_terms terms)) differ tells
 
 -- as many, which are read
@@ -166,8 +132,8 @@ pub values_whole : (signature : code_signature.Signature) (read : Signature) (pa
     → MatchResult answer
     (λ values. HaveValues read (parameter_sorts parameters) (map word_term_of shown) (terms_of values.items))
     (FailsAs (HaveTermFault read (parameter_sorts parameters) (map word_term_of shown)))
-    → MatchResult answer (λ values. AreStartValues (start_of signature parameters words) (terms_of values.items))
-    (FailsAs (IsStartFault (start_of signature parameters words)))
+    → MatchResult answer (λ values. AreStartValues (given_start_of signature parameters words) (terms_of values.items))
+    (FailsAs (IsStartFault (given_start_of signature parameters words)))
 values_whole signature read parameters words terms shown (Ok values) have same many over is = record {
   terms = map word_term_of terms;
   read = have;
@@ -177,7 +143,7 @@ values_whole signature read parameters words terms shown (Ok values) have same m
       same is);
 }
 values_whole signature read parameters words terms shown (Err fault) have same many over is =
-    fails_misfitting (start_of signature parameters words) (map word_term_of terms) fault have
+    fails_misfitting (given_start_of signature parameters words) (map word_term_of terms) fault have
     (as_many_sorts parameters ∙ sym many ∙ sym (as_many_terms terms))
     (subst (λ (g : Signature). FailsAs (HaveTermFault g (parameter_sorts parameters) (map word_term_of terms)) fault) over
     (subst (λ (ts : List code.WordTerm). FailsAs (HaveTermFault read (parameter_sorts parameters) (map word_term_of ts)) fault)

@@ -1,27 +1,21 @@
 -- Reading the words one after another.
-use Rattle.std.proofs.Common.{refl, ap, sym, ◌∙◌, ◌≡◌, inl, inr, subst, arith, ℕ, suc, ◌+◌, ◌<◌, ◌≤◌, ◌^◌, zero, List, [], ◌∷◌, ◌++◌, map, length, drop, get_or, append_assoc, append-nil, Option, None, Some, IsTrue, Bool, true, ◌&&◌}
-use Rattle.std.specs.Prelude.{nat_le, String, string_bytes, IsErrAnd, IsSomeAnd, Result, Ok, Err, MatchResult}
+use Rattle.std.proofs.Common.{refl, ap, sym, ◌∙◌, ◌≡◌, inl, inr, subst, arith, ℕ, suc, ◌+◌, ◌<◌, ◌≤◌, ◌^◌, zero, List, [], ◌∷◌, ◌++◌, map, length, drop, get_or, append_assoc, append-nil, IsTrue, Bool, true, ◌&&◌, le_trans}
+use Rattle.std.specs.Prelude.{nat_le, String, string_bytes, IsErrAnd, Result, Ok, Err, MatchResult}
 use Rattle.std.proofs.Math.ListN.{drop_of_length-le}
 use Rattle.std.proofs.lemmas.Bool.{and_parts, leb-true}
 use Rattle.std.specs.declared.alloc.Global.{Global}
 use Rattle.lotos_base.proofs.Pieces.{next_member}
 use Rattle.lotos_base.specs.WrittenTerm.{WrittenTerm}
-use Rattle.lotos_grammar.specs.HandedOn.{IsTermsReading, IsTermsFault, ReadFault}
+use Rattle.lotos_grammar.specs.HandedOn.{IsTermsReading}
 use Rattle.refusal_lines.specs.Refusal.{Refusal}
-use Rattle.refusal_lines.specs.RefusalView.{refusal_of}
 use Rattle.refusal_lines.specs.declared.start_words.TheConstants.{WORDS_TEXT}
 use Rattle.refusal_lines.specs.declared.faults.StartFault.{StartFault}
 use Rattle.refusal_lines.specs.declared.faults.StartFault.TheVariants.{Refused, NoMemory}
-use Rattle.refusal_lines.specs.StartValues.{WordTerm, of_word, HaveTerms, told_of_word, IsWordFault, HaveWordFault}
-use Rattle.refusal_lines.specs.StartView.{FailsAs, TellsWord}
+use Rattle.refusal_lines.specs.StartValues.{WordTerm, of_word, HaveTerms, IsWordFault, HaveWordFault}
+use Rattle.refusal_lines.specs.StartView.{FailsAs}
 use Rattle.refusal_lines.specs.WordLimits.{words_limit, word_bytes_limit, words_of, total_length, are_within}
 
 -- ---- Limits
-
-pub few_words : (words : List (List ℕ)) → IsTrue (are_within words) → length words ≤ words_limit
-few_words words within =
-    leb-true (length words) words_limit
-    (and_parts (nat_le (length words) words_limit) (nat_le (total_length words) word_bytes_limit) within).0
 
 bounded_total : (words : List (List ℕ)) → IsTrue (are_within words) → total_length words ≤ word_bytes_limit
 bounded_total words within =
@@ -38,17 +32,13 @@ no_longer (first ∷ words) (suc i) word within is =
     let rest : length (string_bytes word) ≤ total_length (words_of words) = no_longer words i word (omega (arith, within)) is in
     omega (arith, rest)
 
-at_most : (n total limit : ℕ) → n ≤ total → total ≤ limit → n ≤ limit
-at_most n total limit small bounded = omega (arith, small, bounded)
-
 -- each word is short
 pub short_word : (words : List (String Global)) (i : ℕ) (word : String Global) (bytes : List ℕ) → IsTrue (are_within (words_of words))
     → i < length words → word ≡ get_or words i word → bytes ≡ string_bytes word → length bytes + 1 < 2 ^ 32
 short_word words i word bytes within inside is same =
     let long : length bytes ≡ length (string_bytes word) = ap (λ (b : List ℕ). length b) same in
     let own : length (string_bytes word) ≤ word_bytes_limit =
-    at_most (length (string_bytes word)) (total_length (words_of words)) word_bytes_limit (no_longer words i word inside is)
-    (bounded_total (words_of words) within) in
+    le_trans (no_longer words i word inside is) (bounded_total (words_of words) within) in
     omega (arith, long, own)
 
 -- ---- One after another
@@ -57,9 +47,6 @@ short_word words i word bytes within inside is same =
 pub record ReadSoFar (words : List (List ℕ)) (number : ℕ) (left : List (List ℕ)) (terms : List WordTerm) : Type 0 where
   pub fine : (others : List WordTerm) → HaveTerms number left others → HaveTerms 1 words (terms ++ others)
   pub faulty : (refusal : Refusal) → HaveWordFault number left refusal → HaveWordFault 1 words refusal
-
-pub none_read : (words : List (List ℕ)) → ReadSoFar words 1 words []
-none_read words = record { fine = λ others is. is; faulty = λ refusal is. is }
 
 pub one_read : (words : List (List ℕ)) (number : ℕ) (word : List ℕ) (left : List (List ℕ)) (own : List WrittenTerm)
     (terms more : List WordTerm) → ReadSoFar words number (word ∷ left) terms → IsTermsReading WORDS_TEXT word own
@@ -130,15 +117,3 @@ pub err_out : {T : Type 0} (answer : Result T StartFault) (fault : StartFault) (
     → IsErrAnd answer (λ (e : StartFault). e ≡ fault) → Q fault → MatchResult answer P Q
 err_out (Ok x) fault P Q is q = absurd is
 err_out (Err e) fault P Q is q = subst Q (sym is) q
-
--- ---- A word
-
-pub word_misread : (number : ℕ) (word : List ℕ) (fault : ReadFault) (answer : StartFault) → IsTermsFault WORDS_TEXT word fault
-    → TellsWord number fault answer → FailsAs (IsWordFault number word) answer
-word_misread number word fault (Refused found) is tells = by (told_of_word number fault) refl tells
-  where
-    by : (told : Option Refusal) → told_of_word number fault ≡ told
-        → IsSomeAnd told (λ (refusal : Refusal). refusal_of found ≡ Some refusal) → FailsAs (IsWordFault number word) (Refused found)
-    by None e tells = absurd tells
-    by (Some refusal) e tells = (refusal, (fault, is, e), tells)
-word_misread number word fault NoMemory is tells = tt

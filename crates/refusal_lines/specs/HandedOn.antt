@@ -24,7 +24,7 @@ pub use Rattle.lotos_grammar.specs.declared.faults.LibraryFault.{LibraryFault}
 pub use Rattle.lotos_grammar.specs.declared.faults.LibraryFault.TheVariants as library_faults
 pub use Rattle.lotos_grammar.specs.declared.gathered.Gathered as gathered
 pub use Rattle.lotos_grammar.specs.declared.gathered.Gathered.{Gathered as CodeGathered}
-pub use Rattle.process_checks.specs.Calls.{calls_of, process_at, called_by, graph_of}
+pub use Rattle.process_checks.specs.Calls.{call_sites_of, process_at, called_by, call_graph_of}
 pub use Rattle.process_checks.specs.Exits.{Blames}
 pub use Rattle.process_checks.specs.Functionality.{Functionality, Disagreement, all_disagreements, value_sort, variable_sort, declared_by}
 pub use Rattle.process_checks.specs.Functionality.{of_either, of_both, functionality, are_same, at_sign, disagreements, at_definition}

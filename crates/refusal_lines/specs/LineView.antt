@@ -11,7 +11,7 @@ use Rattle.refusal_lines.specs.Refusal.{Refusal}
 use Rattle.refusal_lines.specs.RefusalView.{refusal_of}
 use Rattle.refusal_lines.specs.declared.refused.Refused.{Refused}
 use Rattle.refusal_lines.specs.RefusalWords.{words_of_refusal}
-use Rattle.refusal_lines.specs.RefusalPlace.{place_of}
+use Rattle.refusal_lines.specs.RefusalPlace.{place_of_refusal}
 use Rattle.refusal_lines.specs.RefusalDetail.{detail_of}
 use Rattle.refusal_lines.specs.TextNames as plain
 use Rattle.refusal_lines.specs.TextNames.{at_text}
@@ -23,7 +23,7 @@ words_told (Some refusal) = words_of_refusal refusal
 
 abbrev pub place_told : Option Data → Option Refusal → Option Place
 place_told known None = None
-place_told known (Some refusal) = place_of known refusal
+place_told known (Some refusal) = place_of_refusal known refusal
 
 abbrev pub detail_told : plain.TextNames → Option Data → Option Specification → Option Refusal → List ℕ
 detail_told names data_ spec None = []

@@ -67,30 +67,30 @@ abbrev pub process_text : Option Process → List ℕ
 process_text None = []
 process_text (Some process) = process.name
 
-abbrev pub process_at : Option Specification → ℕ → List ℕ
-process_at None number = []
-process_at (Some spec) number = process_text (slice_get spec.processes number)
+abbrev pub process_text_at : Option Specification → ℕ → List ℕ
+process_text_at None number = []
+process_text_at (Some spec) number = process_text (slice_get spec.processes number)
 
-abbrev pub steps_text : Option Specification → List ℕ → List ℕ
-steps_text spec [] = []
-steps_text spec (process ∷ processes) = process_at spec process ++ codes " -> " ++ steps_text spec processes
+abbrev pub process_steps_text : Option Specification → List ℕ → List ℕ
+process_steps_text spec [] = []
+process_steps_text spec (process ∷ processes) = process_text_at spec process ++ codes " -> " ++ process_steps_text spec processes
 
 abbrev pub cycle_detail : Option Specification → List ℕ → List ℕ
 cycle_detail spec [] = []
-cycle_detail spec (process ∷ processes) = codes " " ++ steps_text spec (process ∷ processes) ++ process_at spec process
+cycle_detail spec (process ∷ processes) = codes " " ++ process_steps_text spec (process ∷ processes) ++ process_text_at spec process
 
 -- an equation, with its own names of variables
 abbrev pub sides_text : Signature → Equation → List ℕ
 sides_text signature equation =
     term_text signature equation.variables equation.left ++ codes " = " ++ term_text signature equation.variables equation.right
 
-abbrev pub equation_text : Signature → Option Equation → List ℕ
-equation_text signature None = []
-equation_text signature (Some equation) = codes " " ++ sides_text signature equation
+abbrev pub detailed_equation_text : Signature → Option Equation → List ℕ
+detailed_equation_text signature None = []
+detailed_equation_text signature (Some equation) = codes " " ++ sides_text signature equation
 
 abbrev pub equation_detail : Option Data → ℕ → List ℕ
 equation_detail None number = []
-equation_detail (Some data_) number = equation_text data_.signature (slice_get data_.equations number)
+equation_detail (Some data_) number = detailed_equation_text data_.signature (slice_get data_.equations number)
 
 -- a critical pair: the place of the equation of its second rule, its peak, and the two chosen forms of its sides
 abbrev pub with_place : TextNames → Option Place → List ℕ

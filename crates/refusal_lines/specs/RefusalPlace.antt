@@ -40,22 +40,22 @@ place_of_equation None number = None
 place_of_equation (Some data_) number = option_map place_in (slice_get data_.equations number)
 
 -- of all
-abbrev pub place_of : Option Data → Refusal → Option Place
-place_of known (bad_byte place) = Some place
-place_of known (open_comment place) = Some place
-place_of known (too_long text) = Some (beginning text)
-place_of known (wrong_syntax place) = Some place
-place_of known (too_deep place) = Some place
-place_of known (too_many_libraries place name) = Some place
-place_of known (wrong_names fault) = Some (place_of_names fault)
-place_of known (wrong_types fault) = Some (place_of_types fault)
-place_of known (wrong_scopes fault) = Some (fault_place fault)
-place_of known (mismatch place left right) = Some place
-place_of known (unguarded place process cycle) = Some place
-place_of known (unknown_operation place name) = Some place
-place_of known (twice_listed place name) = Some place
-place_of known (bad_status place name) = Some place
-place_of known (unorientable equation) = place_of_equation known equation
-place_of known (unjoined first second peak left right) = place_of_equation known first
-place_of known (start_values wanted given) = None
-place_of known (start_term refusal) = Some (refusal_place refusal)
+abbrev pub place_of_refusal : Option Data → Refusal → Option Place
+place_of_refusal known (bad_byte place) = Some place
+place_of_refusal known (open_comment place) = Some place
+place_of_refusal known (too_long text) = Some (beginning text)
+place_of_refusal known (wrong_syntax place) = Some place
+place_of_refusal known (too_deep place) = Some place
+place_of_refusal known (too_many_libraries place name) = Some place
+place_of_refusal known (wrong_names fault) = Some (place_of_names fault)
+place_of_refusal known (wrong_types fault) = Some (place_of_types fault)
+place_of_refusal known (wrong_scopes fault) = Some (fault_place fault)
+place_of_refusal known (mismatch place left right) = Some place
+place_of_refusal known (unguarded place process cycle) = Some place
+place_of_refusal known (unknown_operation place name) = Some place
+place_of_refusal known (twice_listed place name) = Some place
+place_of_refusal known (bad_status place name) = Some place
+place_of_refusal known (unorientable equation) = place_of_equation known equation
+place_of_refusal known (unjoined first second peak left right) = place_of_equation known first
+place_of_refusal known (start_values wanted given) = None
+place_of_refusal known (start_term refusal) = Some (refusal_place refusal)

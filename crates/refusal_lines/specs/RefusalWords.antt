@@ -27,11 +27,11 @@ words_of_types (two_readings place) = codes "213 TwoReadings"
 words_of_types (too_large place name) = codes "214 TooLarge"
 
 -- of a term
-abbrev pub words_of_term : reading.ReadingRefusal → List ℕ
-words_of_term (reading.unknown_name place) = codes "211 UnknownName"
-words_of_term (reading.unknown_sort place) = codes "205 UnknownSort"
-words_of_term (reading.no_reading place) = codes "212 NoReading"
-words_of_term (reading.two_readings place) = codes "213 TwoReadings"
+abbrev pub words_of_term_refusal : reading.ReadingRefusal → List ℕ
+words_of_term_refusal (reading.unknown_name place) = codes "211 UnknownName"
+words_of_term_refusal (reading.unknown_sort place) = codes "205 UnknownSort"
+words_of_term_refusal (reading.no_reading place) = codes "212 NoReading"
+words_of_term_refusal (reading.two_readings place) = codes "213 TwoReadings"
 
 -- of definitions and behaviours
 abbrev pub words_of_scopes : scope.ScopeFault → List ℕ
@@ -42,7 +42,7 @@ words_of_scopes (scope.double_name place name) = codes "303 DoubleName"
 words_of_scopes (scope.gate_count place wanted given) = codes "304 GateCount"
 words_of_scopes (scope.value_count place wanted given) = codes "305 ValueCount"
 words_of_scopes (scope.no_bool place) = codes "306 NoBool"
-words_of_scopes (scope.refused_term refusal) = words_of_term refusal
+words_of_scopes (scope.refused_term refusal) = words_of_term_refusal refusal
 
 -- of all
 abbrev pub words_of_refusal : Refusal → List ℕ
@@ -63,4 +63,4 @@ words_of_refusal (bad_status place name) = codes "503 BadStatus"
 words_of_refusal (unorientable equation) = codes "601 Unorientable"
 words_of_refusal (unjoined first second peak left right) = codes "602 Unjoined"
 words_of_refusal (start_values wanted given) = codes "701 StartValues"
-words_of_refusal (start_term refusal) = words_of_term refusal
+words_of_refusal (start_term refusal) = words_of_term_refusal refusal

@@ -4,7 +4,7 @@ use Rattle.lotos_base.specs.WrittenView.{written_term_of}
 use Rattle.lotos_grammar.specs.HandedOn.{ReadFault}
 use Rattle.sort_terms.specs.EquationView.{variable_of}
 use Rattle.sort_terms.specs.ReadingOutcome as reading
-use Rattle.sort_terms.specs.RefusalView.{refusal_of as reason_of}
+use Rattle.sort_terms.specs.RefusalView.{reading_refusal_of as reason_of}
 use Rattle.sort_terms.specs.SignatureView.{signature_of}
 use Rattle.sort_terms.specs.declared.equations.Variable.{Variable}
 use Rattle.sort_terms.specs.declared.signatures.Signature.{Signature}
@@ -27,8 +27,8 @@ abbrev pub parameter_sorts : List Variable → List ℕ
 parameter_sorts parameters = sorts_of (map variable_of parameters)
 
 -- what is given
-abbrev pub start_of : Signature → List Variable → List (List ℕ) → Start
-start_of signature parameters words =
+abbrev pub given_start_of : Signature → List Variable → List (List ℕ) → Start
+given_start_of signature parameters words =
     record { signature = signature_of signature; sorts = parameter_sorts parameters; words = words }
 
 -- the answer tells a refusal of this kind; or memory was wanted

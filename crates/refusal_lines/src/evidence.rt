@@ -5,13 +5,13 @@ ghost use Rattle.refusal_lines.specs.LineView.{data_in, names_of, spec_in};
 ghost use Rattle.refusal_lines.specs.RefusalDetail.{
   cycle_detail,
   equation_detail,
-  equation_text,
+  detailed_equation_text,
   forms_text,
   mismatch_detail,
   pair_detail,
-  process_at,
+  process_text_at,
   sides_text,
-  steps_text,
+  process_steps_text,
   with_place,
 };
 ghost use Rattle.refusal_lines.specs.RefusalPlace.{place_of_equation};
@@ -68,7 +68,7 @@ pub fn push_cycle(spec: &Option<Spec>, cycle: &Vec<u32>, into: &mut Vec<u8>) -> 
 // Appends processes, each with an arrow behind it.
 fn push_steps(spec: &Option<Spec>, cycle: &Vec<u32>, into: &mut Vec<u8>) -> Result<(), NoMemory>
     ensures { OnOk result (into.new.items
-        ≡ into.old.items ++ steps_text (spec_in spec.now) cycle.now.items) }
+        ≡ into.old.items ++ process_steps_text (spec_in spec.now) cycle.now.items) }
 {
     for process in cycle {
         push_process(spec, *process, into)?;
@@ -80,7 +80,7 @@ fn push_steps(spec: &Option<Spec>, cycle: &Vec<u32>, into: &mut Vec<u8>) -> Resu
 // Appends the name of the process with the number, if there is one.
 fn push_process(spec: &Option<Spec>, number: u32, into: &mut Vec<u8>) -> Result<(), NoMemory>
     ensures { OnOk result (into.new.items
-        ≡ into.old.items ++ process_at (spec_in spec.now) number) }
+        ≡ into.old.items ++ process_text_at (spec_in spec.now) number) }
 {
     match spec {
         None => Ok(()),
@@ -91,7 +91,7 @@ fn push_process(spec: &Option<Spec>, number: u32, into: &mut Vec<u8>) -> Result<
 // Appends the name of the process of the specification with the number, if there is one.
 fn push_process_of(spec: &Spec, number: u32, into: &mut Vec<u8>) -> Result<(), NoMemory>
     ensures { OnOk result (into.new.items
-        ≡ into.old.items ++ process_at (Some (specification_of spec.now)) number) }
+        ≡ into.old.items ++ process_text_at (Some (specification_of spec.now)) number) }
 {
     match spec.processes.get(number as usize) {
         None => Ok(()),
@@ -112,7 +112,7 @@ pub fn push_equation(flat: &Option<Flat>, number: u32, into: &mut Vec<u8>) -> Re
 
 // Appends the equation of the data with the number, if there is one.
 fn push_equation_of(flat: &Flat, number: u32, into: &mut Vec<u8>) -> Result<(), NoMemory>
-    ensures { OnOk result (into.new.items ≡ into.old.items ++ equation_text
+    ensures { OnOk result (into.new.items ≡ into.old.items ++ detailed_equation_text
         (data_of flat.now).signature (slice_get (data_of flat.now).equations number)) }
 {
     match flat.equations.get(number as usize) {

@@ -25,7 +25,7 @@ ghost use Rattle.refusal_lines.specs.StartView.{
   TellsRefusal,
   TellsTerm,
   parameter_sorts,
-  start_of,
+  given_start_of,
   word_term_of,
 };
 ghost use Rattle.refusal_lines.specs.declared.faults.StartFault.TheVariants.{Refused as refused};
@@ -53,9 +53,9 @@ pub fn start_values(
     requires { IsTrue (are_within (words_of words.now)) }
     ensures read { MatchResult result
         (λ values. AreStartValues
-        (start_of signature.now parameters.now (words_of words.now)) (terms_of values.items))
+        (given_start_of signature.now parameters.now (words_of words.now)) (terms_of values.items))
         (FailsAs
-        (IsStartFault (start_of signature.now parameters.now (words_of words.now)))) }
+        (IsStartFault (given_start_of signature.now parameters.now (words_of words.now)))) }
     ensures profiles { IfOk result
         (λ values. AreTermsOf (signature_of signature.now) (profiles_of values.items)) }
 {

@@ -6,19 +6,19 @@ use Rattle.sort_terms.specs.declared.equations.Variable as kept
 use Rattle.behaviour_tree.specs.BehaviourView.{variables_of}
 use Rattle.printed_texts.specs.BehaviourText.{Naming, between_blanks, declarations_text, declared_text, enable_sign, round_list, square_list}
 use Rattle.printed_texts.specs.Brackets.{commas, round, square}
-use Rattle.report_text.specs.Members.{declared_member, texts_of}
+use Rattle.report_text.specs.Members.{declared_member, member_texts_of}
 
 pub round_filled :
     {M : Type 0} (text : M → Naming → List Variable → List ℕ) (naming : Naming) (names : List Variable) (members : List M) →
     (length members ≡ 0 → ⊥) →
-    round_list (texts_of text naming names members) ≡ round (commas (texts_of text naming names members))
+    round_list (member_texts_of text naming names members) ≡ round (commas (member_texts_of text naming names members))
 round_filled text naming names [] h = absurd (h refl)
 round_filled text naming names (m ∷ members) h = refl
 
 pub square_filled :
     {M : Type 0} (text : M → Naming → List Variable → List ℕ) (naming : Naming) (names : List Variable) (members : List M) →
     (length members ≡ 0 → ⊥) →
-    square_list (texts_of text naming names members) ≡ square (commas (texts_of text naming names members))
+    square_list (member_texts_of text naming names members) ≡ square (commas (member_texts_of text naming names members))
 square_filled text naming names [] h = absurd (h refl)
 square_filled text naming names (m ∷ members) h = refl
 
@@ -32,7 +32,7 @@ pub accept_sign :
     (naming : Naming) (names : List Variable) (variables : List kept.Variable) →
     (length variables ≡ 0 → ⊥) →
     between_blanks (enable_sign naming (variables_of variables))
-    ≡ codes " >> accept " ++ commas (texts_of declared_member naming names variables) ++ codes " in "
+    ≡ codes " >> accept " ++ commas (member_texts_of declared_member naming names variables) ++ codes " in "
 accept_sign naming names [] h = absurd (h refl)
 accept_sign naming names (x ∷ variables) h =
     ap (λ (text : List ℕ). codes " " ++ text)

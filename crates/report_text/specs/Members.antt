@@ -30,5 +30,5 @@ abbrev pub binding_member : kept.Variable × Sorted → Naming → List Variable
 binding_member bound naming names = binding_text naming names (let_of bound)
 
 -- the texts of the members of a list
-abbrev pub texts_of : {M : Type 0} → (M → Naming → List Variable → List ℕ) → Naming → List Variable → List M → List (List ℕ)
-texts_of {M = M} text naming names members = map (λ (member : M). text member naming names) members
+abbrev pub member_texts_of : {M : Type 0} → (M → Naming → List Variable → List ℕ) → Naming → List Variable → List M → List (List ℕ)
+member_texts_of {M = M} text naming names members = map (λ (member : M). text member naming names) members

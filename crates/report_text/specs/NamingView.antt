@@ -10,15 +10,15 @@ use Rattle.report_text.specs.declared.naming.ProcessNames.{ProcessNames}
 use Rattle.report_text.specs.declared.naming.ProcessNames.TheVariants.{Own, Given}
 
 -- the names of the processes
-abbrev pub names_of : ProcessNames → List (List ℕ)
-names_of (Own processes) = map (λ (p : plain.Process). p.name) (map process_of processes.now.items)
-names_of (Given names) = map spelling names.now.items
+abbrev pub names_of_processes : ProcessNames → List (List ℕ)
+names_of_processes (Own processes) = map (λ (p : plain.Process). p.name) (map process_of processes.now.items)
+names_of_processes (Given names) = map spelling names.now.items
 
 -- the signature with the names
 abbrev pub naming_of : Naming → wording.Naming
 naming_of naming = record {
   signature = signature_of naming.signature.now;
   gates = map spelling naming.gates.now.items;
-  processes = names_of naming.processes;
+  processes = names_of_processes naming.processes;
   truth = naming.truth;
 }

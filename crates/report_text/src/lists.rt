@@ -2,7 +2,7 @@
 
 ghost use Rattle.behaviour_tree.specs.BehaviourView.{variables_of};
 ghost use Rattle.report_text.specs.NamingView.{naming_of};
-ghost use Rattle.report_text.specs.Members.{texts_of};
+ghost use Rattle.report_text.specs.Members.{member_texts_of};
 ghost use Rattle.printed_texts.specs.BehaviourText.{round_list, square_list};
 ghost use Rattle.printed_texts.specs.Brackets.{commas, square};
 ghost use Rattle.std.specs.Prelude.{◌≡◌, ◌++◌, OnOk};
@@ -21,7 +21,7 @@ pub fn push_list<M: Member>(
     members: &Vec<M>,
     into: &mut Vec<u8>,
 ) -> Result<(), NoMemory>
-    ensures { OnOk result (into.new.items ≡ into.old.items ++ commas (texts_of M.text
+    ensures { OnOk result (into.new.items ≡ into.old.items ++ commas (member_texts_of M.text
         (naming_of naming.now) (variables_of names.now) members.now.items)) }
 {
     for (index, member) in members.iter().enumerate() {
@@ -38,7 +38,7 @@ pub fn push_round_list<M: Member>(
     members: &Vec<M>,
     into: &mut Vec<u8>,
 ) -> Result<(), NoMemory>
-    ensures { OnOk result (into.new.items ≡ into.old.items ++ round_list (texts_of M.text
+    ensures { OnOk result (into.new.items ≡ into.old.items ++ round_list (member_texts_of M.text
         (naming_of naming.now) (variables_of names.now) members.now.items)) }
 {
     if members.is_empty() {
@@ -56,7 +56,7 @@ pub fn push_square<M: Member>(
     members: &Vec<M>,
     into: &mut Vec<u8>,
 ) -> Result<(), NoMemory>
-    ensures { OnOk result (into.new.items ≡ into.old.items ++ square (commas (texts_of M.text
+    ensures { OnOk result (into.new.items ≡ into.old.items ++ square (commas (member_texts_of M.text
         (naming_of naming.now) (variables_of names.now) members.now.items))) }
 {
     let position = open_square(into)?;
@@ -71,7 +71,7 @@ pub fn push_square_list<M: Member>(
     members: &Vec<M>,
     into: &mut Vec<u8>,
 ) -> Result<(), NoMemory>
-    ensures { OnOk result (into.new.items ≡ into.old.items ++ square_list (texts_of M.text
+    ensures { OnOk result (into.new.items ≡ into.old.items ++ square_list (member_texts_of M.text
         (naming_of naming.now) (variables_of names.now) members.now.items)) }
 {
     if members.is_empty() {

@@ -187,3 +187,7 @@ first_step_once {rules = rules} {t = t} {u = u} {v = v} well one two =
     same_Some _ _ (sym one.is_rule ∙ ap (λ (k : ℕ). slice_get rules k) (first_number one two) ∙ two.is_rule) in
     root_once one.rule t u v (well one.rule (one.number, one.is_rule)).occurring one.step
     (subst (λ (r : Rule). IsRootStep r t v) (sym same) two.step)
+
+-- no rule matches where there is none
+pub no_rule : (t : Term) → NoMatch [] t
+no_rule t rule is found = let none : None ≡ Some rule = is.1 in cc

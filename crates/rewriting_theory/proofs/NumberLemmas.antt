@@ -15,19 +15,19 @@ use Rattle.rewriting_theory.proofs.UniqueLemmas.{variable_list, occurs_member, n
 -- ---- Numbers that go on from a number
 
 -- Each number is smaller than the next new one, or is it.
-abbrev GoOn : ℕ → List ℕ → Type 0
+abbrev pub GoOn : ℕ → List ℕ → Type 0
 GoOn next [] = Unit {0}
 GoOn next (n ∷ ns) = ((n < next) × GoOn next ns) ⊎ ((n ≡ next) × GoOn (suc next) ns)
 
 -- A smaller number than the one at a position is smaller than the next new one, or stands before it.
-abbrev StandsBefore : ℕ → List ℕ → ℕ → ℕ → Type 0
+abbrev pub StandsBefore : ℕ → List ℕ → ℕ → ℕ → Type 0
 StandsBefore next ns i m = (m < next) ⊎ ((j : ℕ) × (j < i) × (slice_get ns j ≡ Some m))
 
-later : (next n i m : ℕ) (ns : List ℕ) → StandsBefore next ns i m → StandsBefore next (n ∷ ns) (suc i) m
+pub later : (next n i m : ℕ) (ns : List ℕ) → StandsBefore next ns i m → StandsBefore next (n ∷ ns) (suc i) m
 later next n i m ns (inl less) = inl less
 later next n i m ns (inr (j, less, e)) = inr (suc j, omega (arith, less), e)
 
-later_new : (next n i m : ℕ) (ns : List ℕ) → n ≡ next → StandsBefore (suc next) ns i m → StandsBefore next (n ∷ ns) (suc i) m
+pub later_new : (next n i m : ℕ) (ns : List ℕ) → n ≡ next → StandsBefore (suc next) ns i m → StandsBefore next (n ∷ ns) (suc i) m
 later_new next n i m ns same (inr (j, less, e)) = inr (suc j, omega (arith, less), e)
 later_new next n i m ns same (inl less) = go (nat_eq n m) refl
   where
@@ -37,7 +37,7 @@ later_new next n i m ns same (inl less) = go (nat_eq n m) refl
         let differ : n ≡ m → ⊥ = λ is. (let other : nat_eq n m ≡ true = (Decides-eqb n m).1 is in cc) in
         inl (smaller n m next same less differ)
 
-go_on_before : (ns : List ℕ) (next : ℕ) → GoOn next ns → (i n m : ℕ) → slice_get ns i ≡ Some n → m < n → StandsBefore next ns i m
+pub go_on_before : (ns : List ℕ) (next : ℕ) → GoOn next ns → (i n m : ℕ) → slice_get ns i ≡ Some n → m < n → StandsBefore next ns i m
 go_on_before [] next on i n m is less = let none : None ≡ Some n = is in cc
 go_on_before (k ∷ ns) next (inl (small, on)) zero n m is less =
     let same : k ≡ n = same_Some k n is in inl (omega (arith, same, small, less))
@@ -46,7 +46,7 @@ go_on_before (k ∷ ns) next (inr (new, on)) zero n m is less =
     let same : k ≡ n = same_Some k n is in inl (omega (arith, same, new, less))
 go_on_before (k ∷ ns) next (inr (new, on)) (suc i) n m is less = later_new next k i m ns new (go_on_before ns (suc next) on i n m is less)
 
-go_on_by_appearance : (ns : List ℕ) → GoOn 0 ns → IsByAppearance ns
+pub go_on_by_appearance : (ns : List ℕ) → GoOn 0 ns → IsByAppearance ns
 go_on_by_appearance ns on = λ i n m is less. go i m (go_on_before ns 0 on i n m is less)
   where
     go : (i m : ℕ) → StandsBefore 0 ns i m → (j : ℕ) × (j < i) × (slice_get ns j ≡ Some m)

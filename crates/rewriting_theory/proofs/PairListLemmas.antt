@@ -11,7 +11,7 @@ use Rattle.rewriting_theory.specs.Rewriting.{Terminates, AreConfluent}
 use Rattle.rewriting_theory.specs.ChosenForm.{Chosen}
 use Rattle.rewriting_theory.specs.Step.{Step}
 use Rattle.rewriting_theory.specs.CriticalPair.{CriticalPair, IsCriticalPair}
-use Rattle.rewriting_theory.specs.PairList.{PairPlace, place_of, AreCriticalPairs, IsUnjoined, IsFirstUnjoined}
+use Rattle.rewriting_theory.specs.PairList.{PairPlace, place_of_critical_pair, AreCriticalPairs, IsUnjoined, IsFirstUnjoined}
 use Rattle.rewriting_theory.specs.PairListLaws.{RewritesToTwo}
 use Rattle.rewriting_theory.proofs.ChosenLemmas.{chosen_one}
 use Rattle.rewriting_theory.proofs.PairLemmas.{pair_at, PairThatJoins, PlacesJoin, places_confluent}
@@ -129,7 +129,7 @@ listed_join rules pairs well ends are none = λ first second path place overlap.
         join_by_steps (same_chosen_join left.1 right.1 (agree number pair is left.0 right.0 left.1 right.1 (term_eq left.0 right.0) refl))
 
     joined : (first second : ℕ) (path : List ℕ) (number : ℕ) (pair : CriticalPair) → slice_get pairs number ≡ Some pair
-        → place_of pair ≡ record { first = first; second = second; path = path } → PairThatJoins rules first second path
+        → place_of_critical_pair pair ≡ record { first = first; second = second; path = path } → PairThatJoins rules first second path
     joined first second path number pair is stands =
         let same : pair ≡ pair_at first second path pair.peak pair.left pair.right =
         ap (λ (p : PairPlace). pair_at p.first p.second p.path pair.peak pair.left pair.right) stands in

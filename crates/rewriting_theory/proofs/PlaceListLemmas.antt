@@ -9,7 +9,7 @@ use Rattle.lotos_base.proofs.PathLemmas.{subterm_below}
 use Rattle.rewriting_theory.specs.Rule.{Rule, IsRuleAt, IsNode}
 use Rattle.rewriting_theory.specs.CriticalPair.{OverlapPlace, Overlaps, CriticalPair, IsCriticalPair}
 use Rattle.rewriting_theory.specs.Numbering.{IsNumbered}
-use Rattle.rewriting_theory.specs.PairList.{ComesBefore, PairPlace, place_of, IsEarlierPlace, AreCriticalPairs}
+use Rattle.rewriting_theory.specs.PairList.{PathComesBefore, PairPlace, place_of_critical_pair, IsEarlierPlace, AreCriticalPairs}
 use Rattle.rewriting_theory.proofs.OverlapLemmas.{pair_overlaps}
 use Rattle.rewriting_theory.specs.Places.{node_paths, argument_paths, is_root, places_at, places_with, places_from, places, IsApartAt, PairsOf, no_place, no_pair, one_pair}
 
@@ -115,29 +115,29 @@ goes_through k (term_then t ts) path is =
         record { position = found.position; rest = found.rest; is_path = found.is_path; from = omega (arith, from) }
 
 -- the root comes before each of them
-root_before : (k : ℕ) (path : List ℕ) → GoesThrough k path → ComesBefore [] path
-root_before k path through = subst (λ (p : List ℕ). ComesBefore [] p) through.is_path tt
+root_before : (k : ℕ) (path : List ℕ) → GoesThrough k path → PathComesBefore [] path
+root_before k path through = subst (λ (p : List ℕ). PathComesBefore [] p) through.is_path tt
 
-argument_before : (k : ℕ) (rest path : List ℕ) → GoesThrough (suc k) path → ComesBefore (k ∷ rest) path
+argument_before : (k : ℕ) (rest path : List ℕ) → GoesThrough (suc k) path → PathComesBefore (k ∷ rest) path
 argument_before k rest path through =
     let from = through.from in
-    subst (λ (p : List ℕ). ComesBefore (k ∷ rest) p) through.is_path (inl (omega (arith, from)))
+    subst (λ (p : List ℕ). PathComesBefore (k ∷ rest) p) through.is_path (inl (omega (arith, from)))
 
 mutual
-  node_paths_ordered : (t : Term) → IsOrdered ComesBefore (node_paths t)
+  node_paths_ordered : (t : Term) → IsOrdered PathComesBefore (node_paths t)
   node_paths_ordered (variable n s) = tt
   node_paths_ordered (node f ts) =
       ((λ path is. root_before 0 path (goes_through 0 ts path is)), argument_paths_ordered 0 ts)
 
-  argument_paths_ordered : (k : ℕ) (ts : Terms) → IsOrdered ComesBefore (argument_paths k ts)
+  argument_paths_ordered : (k : ℕ) (ts : Terms) → IsOrdered PathComesBefore (argument_paths k ts)
   argument_paths_ordered k no_terms = tt
   argument_paths_ordered k (term_then t ts) =
-      ordered_append ComesBefore (map (λ q. k ∷ q) (node_paths t)) (argument_paths (suc k) ts)
-      (ordered_map ComesBefore ComesBefore (λ q. k ∷ q) (λ p q before. inr (refl, before)) (node_paths t) (node_paths_ordered t))
+      ordered_append PathComesBefore (map (λ q. k ∷ q) (node_paths t)) (argument_paths (suc k) ts)
+      (ordered_map PathComesBefore PathComesBefore (λ q. k ∷ q) (λ p q before. inr (refl, before)) (node_paths t) (node_paths_ordered t))
       (argument_paths_ordered (suc k) ts)
       (λ p q left right.
       let found = in_map_back (λ r. k ∷ r) p (node_paths t) left in
-      subst (λ (r : List ℕ). ComesBefore r q) found.2 (argument_before k found.0 q (goes_through (suc k) ts q right)))
+      subst (λ (r : List ℕ). PathComesBefore r q) found.2 (argument_before k found.0 q (goes_through (suc k) ts q right)))
 
 argument_path : (k j m : ℕ) (a : Term) (ts : Terms) (path : List ℕ) → argument_at j ts ≡ Some a → m ≡ k + j
     → IsIn path (node_paths a) → IsIn (m ∷ path) (argument_paths k ts)
@@ -179,7 +179,7 @@ at_path first second (path ∷ paths) place is = go (nat_eq first second && is_r
     go false (inl e) later = (path, inl refl, e)
     go false (inr within) later = let found = later within in (found.0, inr found.1, found.2)
 
-places_at_ordered : (first second : ℕ) (paths : List (List ℕ)) → IsOrdered ComesBefore paths
+places_at_ordered : (first second : ℕ) (paths : List (List ℕ)) → IsOrdered PathComesBefore paths
     → IsOrdered IsEarlierPlace (places_at first second paths)
 places_at_ordered first second [] ordered = tt
 places_at_ordered first second (path ∷ paths) ordered =
@@ -316,7 +316,7 @@ place_listed rules place there = in_index place (places rules) (in_places rules 
 
 -- What a listed pair is.
 record IsFrom (rules : List Rule) (list : List PairPlace) (pair : CriticalPair) : Type 0 where
-  place : IsIn (place_of pair) list
+  place : IsIn (place_of_critical_pair pair) list
   critical : IsCriticalPair rules pair
   numbered : IsNumbered pair.peak
 
@@ -336,7 +336,7 @@ pair_from pair (one_pair one rest) (inr is) =
 -- each place that overlaps has a pair
 place_pair : {rules : List Rule} {list : List PairPlace} {pairs : List CriticalPair} (place : PairPlace)
     (there : OverlapPlace rules place.first place.second place.path) → Overlaps there → PairsOf rules list pairs → IsIn place list
-    → (pair : CriticalPair) × IsIn pair pairs × (place_of pair ≡ place)
+    → (pair : CriticalPair) × IsIn pair pairs × (place_of_critical_pair pair ≡ place)
 place_pair place there overlap no_place is = absurd is
 place_pair {rules = rules} place there overlap (no_pair apart rest) (inl e) =
     absurd (subst (λ (p : PairPlace). IsApartAt rules p) e apart there overlap)
@@ -347,12 +347,12 @@ place_pair place there overlap (one_pair one rest) (inr is) =
     (found.0, inr found.1, found.2)
 
 pairs_ordered : {rules : List Rule} {list : List PairPlace} {pairs : List CriticalPair} → PairsOf rules list pairs
-    → IsOrdered IsEarlierPlace list → IsOrdered (λ one two. IsEarlierPlace (place_of one) (place_of two)) pairs
+    → IsOrdered IsEarlierPlace list → IsOrdered (λ one two. IsEarlierPlace (place_of_critical_pair one) (place_of_critical_pair two)) pairs
 pairs_ordered no_place ordered = tt
 pairs_ordered (no_pair apart rest) ordered = pairs_ordered rest ordered.1
 pairs_ordered (one_pair {pair = pair} one rest) ordered = (
-  (λ other is. subst (λ (p : PairPlace). IsEarlierPlace p (place_of other)) (sym one.is_place)
-      (ordered.0 (place_of other) (pair_from other rest is).place)),
+  (λ other is. subst (λ (p : PairPlace). IsEarlierPlace p (place_of_critical_pair other)) (sym one.is_place)
+      (ordered.0 (place_of_critical_pair other) (pair_from other rest is).place)),
   pairs_ordered rest ordered.1,
 )
 
@@ -365,7 +365,8 @@ pairs_are_all rules pairs from = record {
       let index = in_index found.0 pairs found.1 in
       (index.0, found.0, index.1, found.2);
   ordered = λ i j one two less is other.
-      ordered_index (λ p q. IsEarlierPlace (place_of p) (place_of q)) pairs (pairs_ordered from (places_from_ordered rules 0 rules))
+      ordered_index (λ p q. IsEarlierPlace (place_of_critical_pair p) (place_of_critical_pair q)) pairs
+      (pairs_ordered from (places_from_ordered rules 0 rules))
       i j one two less is other;
 }
 
@@ -377,7 +378,7 @@ pairs_append (one_pair is first) rest = one_pair is (pairs_append first rest)
 
 -- ---- Two lists have the same places
 
-before_twice : (p q : List ℕ) → ComesBefore p q → ComesBefore q p → ⊥
+before_twice : (p q : List ℕ) → PathComesBefore p q → PathComesBefore q p → ⊥
 before_twice [] [] one two = one
 before_twice [] (k ∷ q) one two = two
 before_twice (j ∷ p) [] one two = one
@@ -429,25 +430,27 @@ index_ordered Before (x ∷ xs) ordered = (
 )
 
 places_ordered : {rules : List Rule} (pairs : List CriticalPair) → AreCriticalPairs rules pairs
-    → IsOrdered IsEarlierPlace (map place_of pairs)
+    → IsOrdered IsEarlierPlace (map place_of_critical_pair pairs)
 places_ordered pairs are =
-    ordered_map (λ one two. IsEarlierPlace (place_of one) (place_of two)) IsEarlierPlace place_of (λ one two before. before) pairs
-    (index_ordered (λ one two. IsEarlierPlace (place_of one) (place_of two)) pairs are.ordered)
+    ordered_map (λ one two. IsEarlierPlace (place_of_critical_pair one) (place_of_critical_pair two)) IsEarlierPlace place_of_critical_pair
+    (λ one two before. before) pairs
+    (index_ordered (λ one two. IsEarlierPlace (place_of_critical_pair one) (place_of_critical_pair two)) pairs are.ordered)
 
 -- a place of one list is a place of the other
 place_in_other : {rules : List Rule} (pairs others : List CriticalPair) → AreCriticalPairs rules pairs → AreCriticalPairs rules others
-    → (place : PairPlace) → IsIn place (map place_of pairs) → IsIn place (map place_of others)
+    → (place : PairPlace) → IsIn place (map place_of_critical_pair pairs) → IsIn place (map place_of_critical_pair others)
 place_in_other pairs others are also place is =
-    let pair = in_map_back place_of place pairs is in
+    let pair = in_map_back place_of_critical_pair place pairs is in
     let at = in_index pair.0 pairs pair.1 in
     let critical = are.critical at.0 pair.0 at.1 in
-    let found = also.complete (place_of pair.0) critical.place (pair_overlaps critical) in
-    subst (λ (p : PairPlace). IsIn p (map place_of others)) (found.3 ∙ pair.2)
-    (in_map place_of found.1 others (index_in found.1 others found.0 found.2))
+    let found = also.complete (place_of_critical_pair pair.0) critical.place (pair_overlaps critical) in
+    subst (λ (p : PairPlace). IsIn p (map place_of_critical_pair others)) (found.3 ∙ pair.2)
+    (in_map place_of_critical_pair found.1 others (index_in found.1 others found.0 found.2))
 
 pub same_places : (rules : List Rule) (pairs others : List CriticalPair) → AreCriticalPairs rules pairs → AreCriticalPairs rules others
-    → map place_of pairs ≡ map place_of others
+    → map place_of_critical_pair pairs ≡ map place_of_critical_pair others
 same_places rules pairs others are also =
-    ordered_same IsEarlierPlace earlier_twice (map place_of pairs) (map place_of others) (places_ordered pairs are)
+    ordered_same IsEarlierPlace earlier_twice (map place_of_critical_pair pairs) (map place_of_critical_pair others)
+    (places_ordered pairs are)
     (places_ordered others also)
     (place_in_other pairs others are also) (place_in_other others pairs also are)

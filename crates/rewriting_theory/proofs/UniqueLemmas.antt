@@ -13,7 +13,7 @@ use Rattle.lotos_base.proofs.SubstitutionLemmas.{occurs_substituted, substituted
 use Rattle.lotos_base.specs.Path.{put_at}
 use Rattle.rewriting_theory.specs.Rule.{Rule, AreWellFormedRules}
 use Rattle.rewriting_theory.specs.CriticalPair.{CriticalPair, IsCriticalPair}
-use Rattle.rewriting_theory.specs.PairList.{PairPlace, place_of}
+use Rattle.rewriting_theory.specs.PairList.{PairPlace, place_of_critical_pair}
 use Rattle.rewriting_theory.specs.Numbering.{variable_numbers, all_variable_numbers, IsNumbered}
 use Rattle.rewriting_theory.proofs.LocalLemmas.{values_same}
 use Rattle.rewriting_theory.proofs.SortedSteps.{keeps_back, step_occurs}
@@ -308,7 +308,8 @@ unique_at {first = first} {second = second} {path = path} signature s peak left 
     (λ i. pair_at first second path (peaks i) (lefts i) (rights i))
 
 pub pairs_unique : (signature : Signature) (rules : List Rule) (one two : CriticalPair) (s : ℕ) → AreWellFormedRules rules
-    → IsCriticalPair rules one → IsCriticalPair rules two → place_of one ≡ place_of two → IsNumbered one.peak → IsNumbered two.peak
+    → IsCriticalPair rules one → IsCriticalPair rules two → place_of_critical_pair one ≡ place_of_critical_pair two → IsNumbered one.peak
+    → IsNumbered two.peak
     → HasSort signature one.peak s → HasSort signature two.peak s → one ≡ two
 pairs_unique signature rules one two s well is also at numbered numbered_too h k =
     let moved : two ≡ pair_at one.first one.second one.path two.peak two.left two.right =

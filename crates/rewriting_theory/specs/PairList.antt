@@ -8,11 +8,11 @@ use Rattle.rewriting_theory.specs.CriticalPair.{OverlapPlace, Overlaps, Critical
 use Rattle.rewriting_theory.specs.Numbering.{IsNumbered}
 
 -- Preorder of paths: a path comes before the longer ones that begin with it, and arguments from left to right.
-abbrev pub ComesBefore : List ℕ → List ℕ → Type 0
-ComesBefore [] [] = ⊥
-ComesBefore [] (k ∷ q) = Unit {0}
-ComesBefore (j ∷ p) [] = ⊥
-ComesBefore (j ∷ p) (k ∷ q) = (j < k) ⊎ ((j ≡ k) × ComesBefore p q)
+abbrev pub PathComesBefore : List ℕ → List ℕ → Type 0
+PathComesBefore [] [] = ⊥
+PathComesBefore [] (k ∷ q) = Unit {0}
+PathComesBefore (j ∷ p) [] = ⊥
+PathComesBefore (j ∷ p) (k ∷ q) = (j < k) ⊎ ((j ≡ k) × PathComesBefore p q)
 
 -- A place of a pair: the numbers of its two rules, and the path.
 pub record PairPlace : Type 0 where
@@ -21,14 +21,14 @@ pub record PairPlace : Type 0 where
   pub path : List ℕ
 
 -- The place of the pair.
-abbrev pub place_of : CriticalPair → PairPlace
-place_of pair = record { first = pair.first; second = pair.second; path = pair.path }
+abbrev pub place_of_critical_pair : CriticalPair → PairPlace
+place_of_critical_pair pair = record { first = pair.first; second = pair.second; path = pair.path }
 
 -- The first place comes before the second one.
 abbrev pub IsEarlierPlace : PairPlace → PairPlace → Type 0
 IsEarlierPlace one two =
     (one.first < two.first)
-    ⊎ ((one.first ≡ two.first) × ((one.second < two.second) ⊎ ((one.second ≡ two.second) × ComesBefore one.path two.path)))
+    ⊎ ((one.first ≡ two.first) × ((one.second < two.second) ⊎ ((one.second ≡ two.second) × PathComesBefore one.path two.path)))
 
 -- These are the critical pairs of the rules: each is one, with its variables numbered; each place where two left sides
 -- overlap has one; and they stand in order, so a place has no two.
@@ -36,9 +36,9 @@ pub record AreCriticalPairs (rules : List Rule) (pairs : List CriticalPair) : Ty
   pub critical : (number : ℕ) (pair : CriticalPair) → slice_get pairs number ≡ Some pair → IsCriticalPair rules pair
   pub numbered : (number : ℕ) (pair : CriticalPair) → slice_get pairs number ≡ Some pair → IsNumbered pair.peak
   pub complete : (place : PairPlace) (there : OverlapPlace rules place.first place.second place.path) → Overlaps there
-      → (number : ℕ) × (pair : CriticalPair) × (slice_get pairs number ≡ Some pair) × (place_of pair ≡ place)
+      → (number : ℕ) × (pair : CriticalPair) × (slice_get pairs number ≡ Some pair) × (place_of_critical_pair pair ≡ place)
   pub ordered : (i j : ℕ) (one two : CriticalPair) → i < j → slice_get pairs i ≡ Some one → slice_get pairs j ≡ Some two
-      → IsEarlierPlace (place_of one) (place_of two)
+      → IsEarlierPlace (place_of_critical_pair one) (place_of_critical_pair two)
 
 -- The two sides of the pair have these chosen forms, and they differ.
 pub record IsUnjoined (rules : List Rule) (pair : CriticalPair) (left right : Term) : Type 0 where

@@ -11,7 +11,7 @@ use Rattle.rewriting_theory.specs.Reduction.{Reaches}
 use Rattle.rewriting_theory.specs.Rewriting.{Rewrites, IsNormal, Terminates, AreConfluent}
 use Rattle.rewriting_theory.specs.CriticalPair.{OverlapPlace, CriticalPair, IsCriticalPair}
 use Rattle.rewriting_theory.specs.Numbering.{IsNumbered}
-use Rattle.rewriting_theory.specs.PairList.{PairPlace, place_of, AreCriticalPairs, IsUnjoined, IsFirstUnjoined}
+use Rattle.rewriting_theory.specs.PairList.{PairPlace, place_of_critical_pair, AreCriticalPairs, IsUnjoined, IsFirstUnjoined}
 use Rattle.rewriting_theory.specs.Places.{places, PairsOf}
 
 -- where rewriting ends, the rules are confluent exactly where both sides of each listed pair have one chosen form
@@ -78,7 +78,7 @@ PairsOfPlacesAppend = (rules : List Rule) (one two : List PairPlace) (pairs othe
 -- two lists of the critical pairs of some rules have pairs at the same places, in the same order
 abbrev pub ListsHaveTheSamePlaces : Type 0
 ListsHaveTheSamePlaces = (rules : List Rule) (pairs others : List CriticalPair) → AreCriticalPairs rules pairs
-    → AreCriticalPairs rules others → map place_of pairs ≡ map place_of others
+    → AreCriticalPairs rules others → map place_of_critical_pair pairs ≡ map place_of_critical_pair others
 
 -- a list has only one first unjoined pair, with one chosen form of each side
 abbrev pub FirstUnjoinedIsUnique : Type 0
@@ -90,7 +90,8 @@ FirstUnjoinedIsUnique = (rules : List Rule) (pairs : List CriticalPair) (n m : �
 -- signature, are one pair
 abbrev pub NumberedPairsAreUnique : Type 0
 NumberedPairsAreUnique = (signature : Signature) (rules : List Rule) (one two : CriticalPair) (s : ℕ)
-    → AreWellFormedRules rules → IsCriticalPair rules one → IsCriticalPair rules two → place_of one ≡ place_of two
+    → AreWellFormedRules rules → IsCriticalPair rules one → IsCriticalPair rules two
+    → place_of_critical_pair one ≡ place_of_critical_pair two
     → IsNumbered one.peak → IsNumbered two.peak → HasSort signature one.peak s → HasSort signature two.peak s
     → one ≡ two
 

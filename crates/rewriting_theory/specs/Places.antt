@@ -4,7 +4,7 @@ use Rattle.lotos_base.specs.Term.{Term, variable, node, Terms, no_terms, term_th
 use Rattle.rewriting_theory.specs.Rule.{Rule}
 use Rattle.rewriting_theory.specs.CriticalPair.{OverlapPlace, Overlaps, CriticalPair, IsCriticalPair}
 use Rattle.rewriting_theory.specs.Numbering.{IsNumbered}
-use Rattle.rewriting_theory.specs.PairList.{PairPlace, place_of}
+use Rattle.rewriting_theory.specs.PairList.{PairPlace, place_of_critical_pair}
 
 abbrev mutual
   -- The paths of the term that lead to no variable, in preorder.
@@ -48,7 +48,7 @@ places rules = places_from rules zero rules
 
 -- The pair is that of the place: a critical pair there, its variables numbered by first appearance in its peak.
 pub record IsPairOf (rules : List Rule) (place : PairPlace) (pair : CriticalPair) : Type 0 where
-  pub is_place : place_of pair ≡ place
+  pub is_place : place_of_critical_pair pair ≡ place
   pub critical : IsCriticalPair rules pair
   pub numbered : IsNumbered pair.peak
 

@@ -1,9 +1,9 @@
 -- Lists that are compared member by member.
 use Rattle.std.proofs.Common.{◌≡◌, ◌↔◌, IsTrue, ℕ, zero, suc, ◌+◌, ◌<◌, List, [], ◌∷◌, ◌++◌, Bool, ◌&&◌, nat_eq, length, get_or, take, map, refl, ap, sym, ◌∙◌, arith}
-use Rattle.std.proofs.lemmas.List.{take_more}
 use Rattle.std.proofs.lemmas.Bool.Decides.{Decides-eqb, Decides-and, Decides-like}
 use Rattle.std.specs.Bool.{Decides}
 use Rattle.std.specs.Cmp.Lexicographic.{pointwise, pointwise_decides}
+use Rattle.lotos_base.proofs.Pieces.{take_member}
 
 -- A list of what was made of a list.
 pub map_twice : {X Y Z : Type 0} (f : Y → Z) (g : X → Y) (xs : List X) → map f (map g xs) ≡ map (λ x. f (g x)) xs
@@ -13,9 +13,6 @@ map_twice f g (x ∷ xs) = ap (λ rest. f (g x) ∷ rest) (map_twice f g xs)
 map_last : {X Y : Type 0} (f : X → Y) (xs : List X) (x : X) → map f (xs ++ x ∷ []) ≡ map f xs ++ f x ∷ []
 map_last f [] x = refl
 map_last f (y ∷ xs) x = ap (λ rest. f y ∷ rest) (map_last f xs x)
-
-take_item : {X : Type 0} (xs : List X) (i : ℕ) (x : X) → i < length xs → x ≡ get_or xs i x → take (i + 1) xs ≡ take i xs ++ x ∷ []
-take_item {X = X} xs i x h e = take_more xs i x h ∙ ap (λ (y : X). take i xs ++ y ∷ []) (sym e)
 
 module _ {X Y Z : Type 0} (f : X → Z) (g : Y → Z) where
   pub same_length : (xs : List X) (ys : List Y) → map f xs ≡ map g ys → length xs ≡ length ys
@@ -40,9 +37,9 @@ module _ {X Y Z : Type 0} (f : X → Z) (g : Y → Z) where
   pub same_more : (xs : List X) (ys : List Y) (i : ℕ) (x : X) (y : Y) → i < length xs → i < length ys → x ≡ get_or xs i x
       → y ≡ get_or ys i y → map f (take i xs) ≡ map g (take i ys) → f x ≡ g y → map f (take (i + 1) xs) ≡ map g (take (i + 1) ys)
   same_more xs ys i x y hx hy ex ey e is =
-      ap (map f) (take_item xs i x hx ex) ∙ map_last f (take i xs) x
+      ap (map f) (take_member xs i x hx ex) ∙ map_last f (take i xs) x
       ∙ ap (λ (zs : List Z). zs ++ f x ∷ []) e ∙ ap (λ (z : Z). map g (take i ys) ++ z ∷ []) is
-      ∙ sym (ap (map g) (take_item ys i y hy ey) ∙ map_last g (take i ys) y)
+      ∙ sym (ap (map g) (take_member ys i y hy ey) ∙ map_last g (take i ys) y)
 
 -- Two lists of what was made of lists, and a test that tells of the members.
 pub both_maps : {X Y Z : Type 0} (f f' : Y → Z) (g : X → Y) (xs ys : List X) (r : Bool)

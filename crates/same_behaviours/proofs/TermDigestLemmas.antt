@@ -3,11 +3,12 @@ use Rattle.std.proofs.Common.{Global, ◌≡◌, ◌<◌, ◌+◌, ℕ, List, le
 use Rattle.std.proofs.lemmas.List.{take_all}
 use Rattle.std.specs.declared.rc.Rc.{Rc}
 use Rattle.lotos_base.specs.Term.{Term as PlainTerm, Terms, no_terms, term_then}
+use Rattle.lotos_base.proofs.Pieces.{take_member}
 use Rattle.same_behaviours.specs.Mixing.{mixed}
 use Rattle.same_behaviours.specs.TermDigests.{arguments_digest, digest_behind}
-use Rattle.sort_terms.proofs.TermListLemmas.{take_item, terms_of-append, with_last}
+use Rattle.sort_terms.proofs.TermListLemmas.{terms_of-append, with_last}
 use Rattle.sort_terms.specs.ProfiledTerm.{ProfiledTerms, all_bare}
-use Rattle.sort_terms.specs.TermView.{all_profiled, term_of, terms_of}
+use Rattle.sort_terms.specs.TermView.{all_profiled, term_of, bare_terms_of}
 use Rattle.sort_terms.specs.declared.operations.Op.{Op}
 use Rattle.sort_terms.specs.declared.terms.Term.{Term}
 use Rattle.sort_terms.specs.declared.terms.Term.TheVariants.{Node}
@@ -19,23 +20,24 @@ last_argument before (term_then u us) t = last_argument (digest_behind before u)
 
 -- one argument more
 pub one_more : (before : ℕ) (xs : List Term) (i : ℕ) (x : Term) → i < length xs → x ≡ get_or xs i x
-    → arguments_digest before (terms_of (take (i + 1) xs)) ≡ digest_behind (arguments_digest before (terms_of (take i xs))) (term_of x)
+    → arguments_digest before (bare_terms_of (take (i + 1) xs))
+    ≡ digest_behind (arguments_digest before (bare_terms_of (take i xs))) (term_of x)
 one_more before xs i x within is =
-    ap (λ ys. arguments_digest before (terms_of ys)) (take_item xs i x within is)
-    ∙ ap (arguments_digest before) (terms_of-append (take i xs) x) ∙ last_argument before (terms_of (take i xs)) (term_of x)
+    ap (λ ys. arguments_digest before (bare_terms_of ys)) (take_member xs i x within is)
+    ∙ ap (arguments_digest before) (terms_of-append (take i xs) x) ∙ last_argument before (bare_terms_of (take i xs)) (term_of x)
 
 -- an operation, by its arguments
 operation : (before op : ℕ) (t : Term) (profile : Rc Op Global) (arguments : ProfiledTerms) (items : List Term)
     → t ≡ Node op profile arguments → all_profiled items ≡ arguments
-    → arguments_digest (mixed before op) (terms_of items) ≡ digest_behind before (term_of t)
+    → arguments_digest (mixed before op) (bare_terms_of items) ≡ digest_behind before (term_of t)
 operation before op t profile arguments items is same =
     ap (λ ts. arguments_digest (mixed before op) (all_bare ts)) same ∙ ap (λ u. digest_behind before (term_of u)) (sym is)
 
 -- an operation, by its last argument
 pub by_last : (before op : ℕ) (t : Term) (profile : Rc Op Global) (arguments : ProfiledTerms) (items : List Term) (last : ℕ) (x : Term)
     → t ≡ Node op profile arguments → all_profiled items ≡ arguments → last + 1 ≡ length items → x ≡ get_or items last x
-    → digest_behind (arguments_digest (mixed before op) (terms_of (take last items))) (term_of x) ≡ digest_behind before (term_of t)
+    → digest_behind (arguments_digest (mixed before op) (bare_terms_of (take last items))) (term_of x) ≡ digest_behind before (term_of t)
 by_last before op t profile arguments items last x is same whole at =
     sym (one_more (mixed before op) items last x (omega (arith, whole)) at)
-    ∙ ap (λ ys. arguments_digest (mixed before op) (terms_of ys)) (take_all (last + 1) items (omega (arith, whole)))
+    ∙ ap (λ ys. arguments_digest (mixed before op) (bare_terms_of ys)) (take_all (last + 1) items (omega (arith, whole)))
     ∙ operation before op t profile arguments items is same

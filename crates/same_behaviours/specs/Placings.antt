@@ -21,16 +21,19 @@ binds (Let' bindings _ outer) n = is_listed (numbers_of (let_variables (map let_
 binds (Choice' x _ outer) n = nat_eq x.now.number n || binds outer n
 
 -- what is left of a substitution below the binders
-abbrev pub below : Binders → Substitution → Substitution
-below Outermost values = values
-below (Action' offers _ outer) values = without (numbers_of (asked_variables (map offer_of offers.now.items))) (below outer values)
-below (Accept' variables _ outer) values = without (numbers_of (variables_of variables.now.items)) (below outer values)
-below (Let' bindings _ outer) values = without (numbers_of (let_variables (map let_of bindings.now.items))) (below outer values)
-below (Choice' x _ outer) values = without (x.now.number ∷ []) (below outer values)
+abbrev pub substitution_below : Binders → Substitution → Substitution
+substitution_below Outermost values = values
+substitution_below (Action' offers _ outer) values =
+    without (numbers_of (asked_variables (map offer_of offers.now.items))) (substitution_below outer values)
+substitution_below (Accept' variables _ outer) values =
+    without (numbers_of (variables_of variables.now.items)) (substitution_below outer values)
+substitution_below (Let' bindings _ outer) values =
+    without (numbers_of (let_variables (map let_of bindings.now.items))) (substitution_below outer values)
+substitution_below (Choice' x _ outer) values = without (x.now.number ∷ []) (substitution_below outer values)
 
 -- what is put for variables there
 abbrev pub values_of : Placing → Substitution
-values_of placing = below placing.binders (binding (environment_of placing.environment.now))
+values_of placing = substitution_below placing.binders (binding (environment_of placing.environment.now))
 
 -- the value that was found for a variable, or the variable itself
 abbrev pub found_in : Option (Bor Sorted) → ℕ → ℕ → Term

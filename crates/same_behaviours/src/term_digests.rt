@@ -8,7 +8,7 @@ ghost use Rattle.same_behaviours.specs.TermDigests.{
 ghost use Rattle.behaviour_tree.specs.BehaviourView.{terms_of as terms_in};
 ghost use Rattle.lotos_base.specs.Substitution.{all_substituted, substituted};
 ghost use Rattle.same_behaviours.specs.Placings.{values_of};
-ghost use Rattle.sort_terms.specs.TermView.{term_of, terms_of};
+ghost use Rattle.sort_terms.specs.TermView.{term_of, bare_terms_of};
 ghost use Rattle.std.specs.Prelude.{◌≡◌, ◌≤◌, length, map, take};
 
 use crate::mixing::mix;
@@ -43,7 +43,7 @@ fn digest_behind(before: u64, term: &Term) -> u64
 #[cycle(plain)]
 fn first_digests(before: u64, terms: &Vec<Term>, count: usize) -> u64
     requires { count ≤ length terms.now.items }
-    ensures { result ≡ arguments_digest before (terms_of (take count terms.now.items)) }
+    ensures { result ≡ arguments_digest before (bare_terms_of (take count terms.now.items)) }
 {
     let mut digest = before;
     for i in 0..count {
@@ -75,7 +75,7 @@ fn placed_behind(before: u64, term: &Term, here: &Placing) -> u64
 #[cycle(placed)]
 fn placed_digests(before: u64, terms: &Vec<Term>, here: &Placing) -> u64
     ensures { result ≡ arguments_digest before
-        (all_substituted (values_of here.now) (terms_of terms.now.items)) }
+        (all_substituted (values_of here.now) (bare_terms_of terms.now.items)) }
 {
     let mut digest = before;
     for term in terms {

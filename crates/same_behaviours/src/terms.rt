@@ -2,7 +2,7 @@
 
 ghost use Rattle.same_behaviours.specs.Placings.{values_of};
 ghost use Rattle.lotos_base.specs.Substitution.{all_substituted, substituted};
-ghost use Rattle.sort_terms.specs.TermView.{term_of, terms_of};
+ghost use Rattle.sort_terms.specs.TermView.{term_of, bare_terms_of};
 ghost use Rattle.std.specs.Prelude.{◌≡◌, ◌↔◌, IsTrue};
 
 use crate::placing::Placing;
@@ -38,8 +38,8 @@ pub fn is_placed(term: &Term, other: &Term, placing: &Placing) -> bool
 // The same of lists, one by one.
 #[cycle(placed)]
 fn are_placed(terms: &Vec<Term>, others: &Vec<Term>, placing: &Placing) -> bool
-    ensures { IsTrue result ↔ (terms_of terms.now.items
-        ≡ all_substituted (values_of placing.now) (terms_of others.now.items)) }
+    ensures { IsTrue result ↔ (bare_terms_of terms.now.items
+        ≡ all_substituted (values_of placing.now) (bare_terms_of others.now.items)) }
 {
     if terms.len() != others.len() {
         return false;
@@ -85,8 +85,8 @@ pub fn same_terms(term: &Term, here: &Placing, other: &Term, there: &Placing) ->
 // The same of lists, one by one.
 #[cycle(both)]
 fn all_same_terms(terms: &Vec<Term>, here: &Placing, others: &Vec<Term>, there: &Placing) -> bool
-    ensures { IsTrue result ↔ (all_substituted (values_of here.now) (terms_of terms.now.items)
-        ≡ all_substituted (values_of there.now) (terms_of others.now.items)) }
+    ensures { IsTrue result ↔ (all_substituted (values_of here.now) (bare_terms_of terms.now.items)
+        ≡ all_substituted (values_of there.now) (bare_terms_of others.now.items)) }
 {
     if terms.len() != others.len() {
         return false;

@@ -31,18 +31,6 @@ pub fault_then : {A B : Type 0} (r : Resolution A) (next : A → Resolution B) (
     → faulty f ≡ and_then r next
 fault_then r next f first = ap (λ q. and_then q next) first
 
--- a fault of the first question is a fault of the whole
-pub err_then : {A B : Type 0} (fault : ScopeFault) (r : Resolution A) (next : A → Resolution B) → FaultIs fault (λ f. faulty f ≡ r)
-    → FaultIs fault (λ f. faulty f ≡ and_then r next)
-err_then fault r next = means_map fault (λ f. faulty f ≡ r) (λ f. faulty f ≡ and_then r next) (fault_then r next)
-
--- the answer to the last question is that of the whole
-pub answer_then : {T A B : Type 0} (view : T → B) (answer : Result T ScopeFault) (r : Resolution A) (x : A) (next : A → Resolution B)
-    → resolved x ≡ r → Answers view answer (Is (next x)) → Answers view answer (Is (and_then r next))
-answer_then view (Ok y) r x next first later = value_then r x next (resolved (view y)) first later
-answer_then view (Err fault) r x next first later =
-    means_map fault (λ f. faulty f ≡ next x) (λ f. faulty f ≡ and_then r next) (λ f h. value_then r x next (faulty f) first h) later
-
 -- ---- Lists, member by member
 
 -- members in front of those that come
@@ -168,7 +156,7 @@ err_beside double nothing_told fault Others others beside =
     subst (λ (e : ScopeFault). FaultIs e (λ f. Beside (Some (placed_name_of double)) Others (faulty f))) (sym beside) tt
 err_beside double never_told fault Others others beside = absurd others
 err_beside double (told g) fault Others others beside =
-    means_map fault (λ f. f ≡ plain.first_of_two (plain.double_name (placed_name_of double).place (placed_name_of double).name) g)
+    means_map fault (λ f. f ≡ plain.first_fault_of_two (plain.double_name (placed_name_of double).place (placed_name_of double).name) g)
     (λ f. Beside (Some (placed_name_of double)) Others (faulty f)) (λ f is. (faulty g, others, ap faulty is)) beside
 
 pub answer_beside : {T A : Type 0} (view : T → A) (double : Option (Place × Name)) (others result : Result T ScopeFault)

@@ -13,13 +13,13 @@ use Rattle.behaviour_semantics.specs.Behaviour.{Behaviour, Offer, Test, asked_va
 use Rattle.scope_parts.specs.ScopeFault.{ScopeFault, unknown_process, gate_count, value_count}
 use Rattle.scope_parts.specs.Resolution.{Resolution, resolved, faulty, and_then, Is, ThenResolves, Made}
 use Rattle.scope_parts.specs.Scope.{Scope, Callable, callable_named, found_process, gate_at, gates_at}
-use Rattle.scope_parts.specs.Numbering.{Numbers, spelled, each_once, asked_for, choice_names, past_gates, past_variables, past}
+use Rattle.scope_parts.specs.Numbering.{Numbers, spelled_names, each_once, asked_for, choice_names, past_gates, past_variables, past}
 use Rattle.scope_parts.specs.Sorts.{variables_at}
 use Rattle.scope_parts.specs.Terms.{ValuesAre, LetIs, OffersAre}
 use Rattle.scope_parts.specs.Choices.{GateChoice, ParChoice, under_gates, under_par, under_values}
 use Rattle.scope_parts.specs.Behaviours.{with_gates, with_variables, counted_call, SignIs, BehaviourIs}
 use Rattle.scope_parts.proofs.OnceLemmas.{is_once}
-use Rattle.scope_parts.specs.Order.{StandWhollyBefore, InTurn, Rising, joined, NotAfter}
+use Rattle.scope_parts.specs.Order.{StandWhollyBefore, InTurn, Rising, joined_places, NotAfter}
 use Rattle.scope_parts.specs.TermPlaces.{name_places, premiss_places}
 use Rattle.scope_parts.specs.PartFaults.{GatesHave}
 use Rattle.scope_parts.specs.PartPlaces.{variable_places, value_places, let_places, offers_places, choice_places, sign_places, SignFollows}
@@ -119,7 +119,8 @@ called_same place name gates values None x h = never_faulty x (unknown_process p
 called_same place name gates values (Some p) x h = ap Some (sym (counted_same place gates values p x h))
 
 call_tells : (signature : Signature) (scope : Scope) (place : Place) (name : List ℕ) (gates : List PlacedName) (values : List WrittenTerm)
-    (found : Option Callable) → InTurn ((place ∷ []) ∷ name_places gates ∷ joined (value_places values) ∷ []) → Rising (name_places gates)
+    (found : Option Callable) → InTurn ((place ∷ []) ∷ name_places gates ∷ joined_places (value_places values) ∷ [])
+    → Rising (name_places gates)
     → InTurn (value_places values)
     → TellsFirstFault (ThenResolves (Is (and_then (found_process place name found) (counted_call place (length gates) (length values))))
     (λ (callable : Callable). ThenResolves (Is (gates_at scope.gates gates))
@@ -128,12 +129,12 @@ call_tells : (signature : Signature) (scope : Scope) (place : Place) (name : Lis
     ⊎ (GatesHave scope.gates gates f ⊎ ArgumentsHave signature scope.variables found values f))
 call_tells signature scope place name gates values found turn rise later =
     then_tells (called_tells place name (length gates) (length values) found) inside
-    (apart (place ∷ []) (name_places gates ++ joined (value_places values))
+    (apart (place ∷ []) (name_places gates ++ joined_places (value_places values))
     (answers_within (place ∷ []) (called_tells place name (length gates) (length values) found)
     (called_within place name (length gates) (length values) found))
-    (both_within (name_places gates) (joined (value_places values)) (gates_within scope.gates gates)
+    (both_within (name_places gates) (joined_places (value_places values)) (gates_within scope.gates gates)
     (arguments_within signature scope.variables found values))
-    (before_both (place ∷ []) (name_places gates) (joined (value_places values)) turn.0.0 turn.0.1.0))
+    (before_both (place ∷ []) (name_places gates) (joined_places (value_places values)) turn.0.0 turn.0.1.0))
   where
     arguments : (x : Callable) → found ≡ Some x → TellsFirstFault (ValuesAre signature scope.variables x.sorts values)
         (ArgumentsHave signature scope.variables found values)
@@ -152,7 +153,7 @@ call_tells signature scope place name gates values found turn rise later =
         then_tells (gates_tell scope.gates gates rise)
         (λ numbers so. made_tells (λ terms. call x.number numbers terms)
         (arguments x (called_same place name (length gates) (length values) found x is)))
-        (apart (name_places gates) (joined (value_places values))
+        (apart (name_places gates) (joined_places (value_places values))
         (answers_within (name_places gates) (gates_tell scope.gates gates rise) (gates_within scope.gates gates))
         (arguments_within signature scope.variables found values) turn.1.0.0)
 
@@ -234,8 +235,8 @@ behaviours_tell signature scope numbers (written.guard place test next) follow =
     (behaviour_within signature scope numbers next) follow.0.0.0)
 behaviours_tell signature scope numbers (written.hide place gates inside) follow =
     made_tells _
-    (behaviours_tell signature (with_gates (each_once (spelled gates)) numbers.gate scope)
-    (past_gates (length (each_once (spelled gates))) numbers) inside follow)
+    (behaviours_tell signature (with_gates (each_once (spelled_names gates)) numbers.gate scope)
+    (past_gates (length (each_once (spelled_names gates))) numbers) inside follow)
 behaviours_tell signature scope numbers (written.let_be place values inside) follow =
     then_tells (let_tells signature scope.variables numbers.variable values follow.1)
     (λ (bindings : List (Variable × Term)) is. made_tells (λ within. let_be bindings within)

@@ -15,10 +15,10 @@ use Rattle.scope_parts.specs.Resolution.{Resolution, faulty}
 use Rattle.scope_parts.specs.Terms.{TestOptionIs}
 use Rattle.lotos_base.specs.Term.{Term}
 use Rattle.scope_parts.specs.Scope.{Scope, Callable, Binding, callable_named}
-use Rattle.scope_parts.specs.Numbering.{Numbers, spelled, each_once, asked_for, choice_names, past_gates, past_variables, past, past_heading, past_own, past_inner}
+use Rattle.scope_parts.specs.Numbering.{Numbers, spelled_names, each_once, asked_for, choice_names, past_gates, past_variables, past, past_heading, past_own, past_inner}
 use Rattle.scope_parts.specs.Behaviours.{with_gates, with_variables}
 use Rattle.scope_parts.specs.Definitions.{callables, with_name, past_name}
-use Rattle.scope_parts.specs.Order.{joined}
+use Rattle.scope_parts.specs.Order.{joined_places}
 use Rattle.scope_parts.specs.TermPlaces.{name_places, premiss_places}
 use Rattle.scope_parts.specs.PartPlaces.{variable_places, value_places, let_places, offers_places, choice_places, sign_places}
 use Rattle.scope_parts.specs.PartFaults.{Seeing}
@@ -50,16 +50,16 @@ called_within place name gates values (Some called) f (inl h) = inl (ap fault_pl
 called_within place name gates values (Some called) f (inr h) = inl (ap fault_place h.1)
 
 pub arguments_within : (signature : Signature) (scope : List Variable) (found : Option Callable) (values : List WrittenTerm)
-    → Within (ArgumentsHave signature scope found values) (joined (value_places values))
+    → Within (ArgumentsHave signature scope found values) (joined_places (value_places values))
 arguments_within signature scope None values f h = absurd h
 arguments_within signature scope (Some called) values f h = values_within signature scope called.sorts values f h
 
 call_within : (signature : Signature) (scope : Scope) (place : Place) (name : List ℕ) (gates : List PlacedName) (values : List WrittenTerm)
-    → Within (CallHas signature scope place name gates values) (place ∷ (name_places gates ++ joined (value_places values)))
+    → Within (CallHas signature scope place name gates values) (place ∷ (name_places gates ++ joined_places (value_places values)))
 call_within signature scope place name gates values =
-    both_within (place ∷ []) (name_places gates ++ joined (value_places values))
+    both_within (place ∷ []) (name_places gates ++ joined_places (value_places values))
     (called_within place name (length gates) (length values) (callable_named scope.processes name))
-    (both_within (name_places gates) (joined (value_places values)) (gates_within scope.gates gates)
+    (both_within (name_places gates) (joined_places (value_places values)) (gates_within scope.gates gates)
     (arguments_within signature scope.variables (callable_named scope.processes name) values))
 
 pub sign_behind_within : (signature : Signature) (scope : Scope) (numbers : Numbers) (sign : WrittenSign)
@@ -99,8 +99,8 @@ behaviour_within signature scope numbers (written.guard place test next) f h =
     both_within (premiss_places test) (behaviour_places next) (test_within signature scope.variables test)
     (behaviour_within signature scope numbers next) f h
 behaviour_within signature scope numbers (written.hide place gates inside) f h =
-    behaviour_within signature (with_gates (each_once (spelled gates)) numbers.gate scope)
-    (past_gates (length (each_once (spelled gates))) numbers) inside f h
+    behaviour_within signature (with_gates (each_once (spelled_names gates)) numbers.gate scope)
+    (past_gates (length (each_once (spelled_names gates))) numbers) inside f h
 behaviour_within signature scope numbers (written.let_be place values inside) f (inl h) =
     in_left (fault_place f) (let_places values) (behaviour_places inside) (let_within signature scope.variables numbers.variable values f h)
 behaviour_within signature scope numbers (written.let_be place values inside) f (inr h) =

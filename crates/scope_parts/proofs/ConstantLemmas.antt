@@ -1,10 +1,11 @@
 -- The constant `true` that was found.
-use Rattle.std.proofs.Common.{◌≡◌, ℕ, zero, suc, ◌<◌, true, ◌&&◌, List, [], ◌∷◌, map, get_or, length, refl, ap, sym, ◌∙◌, subst, arith}
+use Rattle.std.proofs.Common.{◌≡◌, ℕ, zero, suc, ◌<◌, true, ◌&&◌, List, [], ◌∷◌, map, get_or, length, ap, sym, ◌∙◌, subst, arith}
 use Rattle.std.specs.Prelude.{Some, nat_eq, codes, slice_get}
-use Rattle.std.proofs.lemmas.Bool.{and_parts, eqb-true}
+use Rattle.std.proofs.lemmas.Bool.{and_parts}
 use Rattle.std.proofs.lemmas.Option.{same_Some}
 use Rattle.lotos_base.specs.Signature.{Operation, prefix_form}
 use Rattle.lotos_base.specs.Twins.{form_eq}
+use Rattle.lotos_base.proofs.Pieces.{no_member_by_length}
 use Rattle.sort_terms.specs.Operations.{operation_of}
 use Rattle.sort_terms.specs.ReadingOutcome.{one_name}
 use Rattle.sort_terms.specs.declared.operations.Op.{Op}
@@ -12,16 +13,11 @@ use Rattle.scope_parts.specs.Sorts.{is_true}
 use Rattle.scope_parts.specs.TermsView.{IsTruthAmong}
 use Rattle.scope_parts.specs.declared.truth.Truth.{Truth}
 
-no_arguments : (sorts : List ℕ) → nat_eq (length sorts) 0 ≡ true → sorts ≡ []
-no_arguments [] is = refl
-no_arguments (s ∷ ss) is =
-    let none : suc (length ss) ≡ 0 = eqb-true _ _ is in absurd (let no : ⊥ = omega (arith, none) in no)
-
 true_arguments : (sort : ℕ) (o : Operation) → is_true sort o ≡ true → o.arguments ≡ []
 true_arguments sort o is =
     let parts = and_parts (one_name o.name (codes "true") && form_eq o.form prefix_form)
     (nat_eq (length o.arguments) 0 && nat_eq o.result sort) is in
-    no_arguments o.arguments (and_parts (nat_eq (length o.arguments) 0) (nat_eq o.result sort) parts.1).0
+    no_member_by_length o.arguments (and_parts (nat_eq (length o.arguments) 0) (nat_eq o.result sort) parts.1).0
 
 get_at : (ops : List Op) (i : ℕ) (op : Op) → i < length ops → op ≡ get_or ops i op
     → slice_get (map operation_of ops) i ≡ Some (operation_of op)

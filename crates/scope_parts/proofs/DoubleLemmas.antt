@@ -6,7 +6,7 @@ use Rattle.std.specs.Option.{option_or}
 use Rattle.std.proofs.Math.Seq.{drop-cons}
 use Rattle.lotos_base.specs.WrittenTerm.{PlacedName}
 use Rattle.scope_parts.specs.Scope.{Binding, bind, is_bound, double_from}
-use Rattle.syntax_trees.specs.TreeViews.{variable_of, variables_of, lets_of, offer_of}
+use Rattle.syntax_trees.specs.TreeViews.{written_variable_of, written_variables_of, lets_of, written_offer_of}
 use Rattle.syntax_trees.specs.declared.named.VarText.{VarText}
 use Rattle.syntax_trees.specs.declared.behaviours.OfferText.{OfferText}
 use Rattle.syntax_trees.specs.declared.behaviours.OfferText.TheVariants.{Give, Ask}
@@ -31,19 +31,19 @@ double_step (Some name) names old new found enters = go (is_bound old name.name)
         ∙ ap (λ (f : Option PlacedName). option_or f (double_from new names)) (sym is.0)
 
 -- the names that lists of the code declare
-pub variables_declared : (texts : List VarText) → filter_map declared_variable texts ≡ placed_variables (variables_of texts)
+pub variables_declared : (texts : List VarText) → filter_map declared_variable texts ≡ placed_variables (written_variables_of texts)
 variables_declared [] = refl
-variables_declared (text ∷ texts) = ap (λ names. placed_variable (variable_of text) ∷ names) (variables_declared texts)
+variables_declared (text ∷ texts) = ap (λ names. placed_variable (written_variable_of text) ∷ names) (variables_declared texts)
 
 pub bindings_declared : (texts : List (VarText × Written)) → filter_map declared_binding texts ≡ placed_variables
     (let_names (lets_of texts))
 bindings_declared [] = refl
-bindings_declared (text ∷ texts) = ap (λ names. placed_variable (variable_of text.0) ∷ names) (bindings_declared texts)
+bindings_declared (text ∷ texts) = ap (λ names. placed_variable (written_variable_of text.0) ∷ names) (bindings_declared texts)
 
-pub offers_declared : (texts : List OfferText) → filter_map declared_offer texts ≡ placed_variables (asked_for (map offer_of texts))
+pub offers_declared : (texts : List OfferText) → filter_map declared_offer texts ≡ placed_variables (asked_for (map written_offer_of texts))
 offers_declared [] = refl
 offers_declared (Give term ∷ texts) = offers_declared texts
-offers_declared (Ask text ∷ texts) = ap (λ names. placed_variable (variable_of text) ∷ names) (offers_declared texts)
+offers_declared (Ask text ∷ texts) = ap (λ names. placed_variable (written_variable_of text) ∷ names) (offers_declared texts)
 
 -- the next member, whether a name is found there or not
 pub double_next : {A : Type 0} (d : A → Option PlacedName) (items : List A) (i : ℕ) (x : A) (old new : List Binding)

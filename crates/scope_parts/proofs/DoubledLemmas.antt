@@ -3,7 +3,7 @@ use Rattle.std.proofs.Common.{◌≡◌, List, [], ◌∷◌, Bool, true, false,
 use Rattle.std.specs.Prelude.{◌⊎◌, Option, None, Some, if◌then◌else◌}
 use Rattle.scope_parts.proofs.FormedLists.{never_faulty}
 use Rattle.lotos_base.specs.WrittenTerm.{PlacedName}
-use Rattle.scope_parts.specs.ScopeFault.{ScopeFault, fault_place, double_name, first_of_two}
+use Rattle.scope_parts.specs.ScopeFault.{ScopeFault, fault_place, double_name, first_fault_of_two}
 use Rattle.scope_parts.specs.Resolution.{Resolution, resolved, faulty, beside, Is, Beside}
 use Rattle.scope_parts.specs.Scope.{Binding, bind, is_bound, double_from, first_double}
 use Rattle.scope_parts.specs.Order.{Rising, NotAfter}
@@ -99,7 +99,7 @@ some_found : {A : Type 0} {Others : Resolution A → Type 0} {Has : ScopeFault �
     → OneFirst One (doubled_at d) → (f : ScopeFault) (r : Resolution A) → Others r → faulty f ≡ beside (Some d) r → One f ⊎ Has f
 some_found One tells d one f (resolved y) is e = inl (subst One (sym (same_fault f (doubled_at d) e)) one.0)
 some_found {Has = Has} One tells d one f (faulty o) is e =
-    subst (λ (x : ScopeFault). One x ⊎ Has x) (sym (same_fault f (first_of_two (doubled_at d) o) e))
+    subst (λ (x : ScopeFault). One x ⊎ Has x) (sym (same_fault f (first_fault_of_two (doubled_at d) o) e))
     (first_has (λ (x : ScopeFault). One x ⊎ Has x) (doubled_at d) o (inl one.0) (inr (tells.found o is)))
 
 some_first : {A : Type 0} {Others : Resolution A → Type 0} {Has : ScopeFault → Type 0} (One : ScopeFault → Type 0)
@@ -110,15 +110,15 @@ some_first One tells d one f g (resolved y) is e (inl k) =
     subst (λ (x : ScopeFault). NotAfter x g) (sym (same_fault f (doubled_at d) e)) (one.1 g k)
 some_first One tells d one f g (resolved y) is e (inr k) = absurd (tells.none y g is k)
 some_first One tells d one f g (faulty o) is e (inl k) =
-    subst (λ (x : ScopeFault). NotAfter x g) (sym (same_fault f (first_of_two (doubled_at d) o) e))
-    (not_after_next (first_of_two (doubled_at d) o) (doubled_at d) g (first_not_after (doubled_at d) o refl).0 (one.1 g k))
+    subst (λ (x : ScopeFault). NotAfter x g) (sym (same_fault f (first_fault_of_two (doubled_at d) o) e))
+    (not_after_next (first_fault_of_two (doubled_at d) o) (doubled_at d) g (first_not_after (doubled_at d) o refl).0 (one.1 g k))
 some_first One tells d one f g (faulty o) is e (inr k) =
-    subst (λ (x : ScopeFault). NotAfter x g) (sym (same_fault f (first_of_two (doubled_at d) o) e))
-    (not_after_next (first_of_two (doubled_at d) o) o g (first_not_after (doubled_at d) o refl).1 (tells.first o g is k))
+    subst (λ (x : ScopeFault). NotAfter x g) (sym (same_fault f (first_fault_of_two (doubled_at d) o) e))
+    (not_after_next (first_fault_of_two (doubled_at d) o) o g (first_not_after (doubled_at d) o refl).1 (tells.first o g is k))
 
 some_none : {A : Type 0} (d : PlacedName) (x : A) (r : Resolution A) → ¬ (resolved x ≡ beside (Some d) r)
 some_none d x (resolved y) e = never_faulty x (doubled_at d) e
-some_none d x (faulty o) e = never_faulty x (first_of_two (doubled_at d) o) e
+some_none d x (faulty o) e = never_faulty x (first_fault_of_two (doubled_at d) o) e
 
 pub beside_tells : {A : Type 0} {Others : Resolution A → Type 0} {Has : ScopeFault → Type 0} (names : List PlacedName)
     → Rising (name_places names) → TellsFirstFault Others Has

@@ -14,7 +14,7 @@ use Rattle.behaviour_semantics.specs.WellFormed.{Every, AreGates, IsSynchronisat
 use Rattle.scope_parts.specs.ScopeFault.{gate_count, value_count}
 use Rattle.scope_parts.specs.Resolution.{Resolution, resolved, faulty}
 use Rattle.scope_parts.specs.Scope.{Scope, Callable, Binding, bind, gates_at, callable_named, found_process, first_double}
-use Rattle.scope_parts.specs.Numbering.{Numbers, spelled, each_once, asked_for, choice_names, gates_in, variable_count, accepted, past_gates, past_variables, past}
+use Rattle.scope_parts.specs.Numbering.{Numbers, spelled_names, each_once, asked_for, choice_names, gates_in, variable_count, accepted, past_gates, past_variables, past}
 use Rattle.scope_parts.specs.Sorts.{variables_at, sorted_variables, placed_variables}
 use Rattle.scope_parts.specs.Terms.{ValuesAre}
 use Rattle.scope_parts.specs.Choices.{GateChoice, ParChoice, sign_at, choices_follow, signs_follow, with_signs, placed_choices, choices_at, under_gates, under_par, under_values}
@@ -72,7 +72,8 @@ ready_variables {signature = signature} {visible = visible} {scope = scope} next
 
 -- ---- Calls
 
-found_callable : (place : Place) (name : List ℕ) (o : Option Callable) (p : Callable) → resolved p ≡ found_process place name o → o ≡ Some p
+pub found_callable : (place : Place) (name : List ℕ) (o : Option Callable) (p : Callable) → resolved p ≡ found_process place name o
+    → o ≡ Some p
 found_callable place name None p is = never_faulty p _ is
 found_callable place name (Some q) p is = ap Some (sym (same_resolved p q is))
 
@@ -333,12 +334,12 @@ behaviour_formed signature names processes (written.guard place test next) have 
       behaviour_formed signature names processes next have visible numbers scope is.2.0 ready room is.2.1,
     )
 behaviour_formed signature names processes (written.hide place gates inside) have visible numbers scope c ready room is =
-    let rooms = two_parts numbers.gate (each_once (spelled gates)) (gates_in inside) names room in
+    let rooms = two_parts numbers.gate (each_once (spelled_names gates)) (gates_in inside) names room in
     subst (λ (b : Behaviour). IsBehaviour signature names processes scope b) (sym is.2) (
-      numbers_formed names numbers.gate (each_once (spelled gates)) rooms.0,
-      behaviour_formed signature names processes inside have (with_gates (each_once (spelled gates)) numbers.gate visible)
-          (past_gates (length (each_once (spelled gates))) numbers) scope is.0
-          (ready_gates (each_once (spelled gates)) numbers.gate rooms.0 ready) rooms.1 is.1,
+      numbers_formed names numbers.gate (each_once (spelled_names gates)) rooms.0,
+      behaviour_formed signature names processes inside have (with_gates (each_once (spelled_names gates)) numbers.gate visible)
+          (past_gates (length (each_once (spelled_names gates))) numbers) scope is.0
+          (ready_gates (each_once (spelled_names gates)) numbers.gate rooms.0 ready) rooms.1 is.1,
     )
 behaviour_formed signature names processes (written.let_be place values inside) have visible numbers scope c ready room is =
     let bound = let_formed signature visible.variables scope numbers.variable values is.0 ready.seen is.1 in

@@ -16,7 +16,7 @@ use Rattle.behaviour_semantics.specs.Behaviour.{Behaviour, Process, Specificatio
 use Rattle.behaviour_semantics.specs.WellFormed.{Every, AreDistinct, AreGates, IsFunctionality, IsDefinition, IsSpecification}
 use Rattle.scope_parts.specs.Resolution.{resolved}
 use Rattle.scope_parts.specs.Scope.{Callable, Binding, callable_named, first_double}
-use Rattle.scope_parts.specs.Numbering.{Numbers, spelled, gates_in, own_gates, inner_gates, inners_gates, past_heading, past_own, past_inner, past_inners, process_count, processes_count}
+use Rattle.scope_parts.specs.Numbering.{Numbers, spelled_names, gates_in, own_gates, inner_gates, inners_gates, past_heading, past_own, past_inner, past_inners, process_count, processes_count}
 use Rattle.scope_parts.specs.Sorts.{sort_named, sort_at, found_sort, sorts_if, variable_at, sorted_variables, variables_at, functionality_at, placed_variables}
 use Rattle.scope_parts.specs.Behaviours.{numbers_from}
 use Rattle.scope_parts.specs.Definitions.{Heading, formal_gates, heading_at, own_scope, DefinitionIs, callable_of, callables, process_with, past_name, with_name, InnerIs, InnersAre, first_numbers, declared_gates, SpecificationIs}
@@ -42,7 +42,7 @@ found_is signature v s is = go (sort_named signature v.sort) is
     go None is = never_faulty s _ is
     go (Some n) is = ap Some (sym (same_resolved s n is))
 
-same_sorts : (signature : Signature) (next : ℕ) (vs : List WrittenVariable) (xs : List Variable)
+pub same_sorts : (signature : Signature) (next : ℕ) (vs : List WrittenVariable) (xs : List Variable)
     → resolved xs ≡ sorted_variables signature next vs → sorts_if signature vs ≡ map (λ (x : Variable). Some x.sort) xs
 same_sorts signature next [] xs is =
     ap (λ (ys : List Variable). map (λ (x : Variable). Some x.sort) ys) (sym (same_resolved xs [] is))
@@ -93,11 +93,11 @@ append_nothing : {A : Type 0} (xs : List A) → xs ++ [] ≡ xs
 append_nothing [] = refl
 append_nothing (x ∷ xs) = ap (λ ys. x ∷ ys) (append_nothing xs)
 
-pub length_spelled : (names : List PlacedName) → length (spelled names) ≡ length names
+pub length_spelled : (names : List PlacedName) → length (spelled_names names) ≡ length names
 length_spelled [] = refl
 length_spelled (name ∷ names) = ap suc (length_spelled names)
 
-length_numbers : {A : Type 0} (next : ℕ) (xs : List A) → length (numbers_from next xs) ≡ length xs
+pub length_numbers : {A : Type 0} (next : ℕ) (xs : List A) → length (numbers_from next xs) ≡ length xs
 length_numbers next [] = refl
 length_numbers next (x ∷ xs) = ap suc (length_numbers (next + 1) xs)
 
@@ -111,7 +111,7 @@ own_ready : (signature : Signature) (names : ℕ) (all : List Process) (visible 
     → IsReady signature names all (own_scope visible numbers heading h) (numbers.variable + length heading.parameters) h.parameters
 own_ready signature names all visible numbers heading h is called room =
     let many = length_spelled heading.gates in
-    let own : numbers.gate + length (spelled heading.gates) ≤ names = omega (arith, room, many) in
+    let own : numbers.gate + length (spelled_names heading.gates) ≤ names = omega (arith, room, many) in
     record {
       seen = record {
         over = over_more signature [] h.parameters (λ i v at. absurd (none-some v at)) is.declared.sorted;
@@ -123,7 +123,7 @@ own_ready signature names all visible numbers heading h is called room =
       below =
           below_more numbers.variable (length heading.parameters) [] h.parameters (λ i v at. absurd (none-some v at)) is.declared.numbered
           is.declared.counted;
-      gates = bind_below names (spelled heading.gates) numbers.gate [] (no_gates_bound names) own;
+      gates = bind_below names (spelled_names heading.gates) numbers.gate [] (no_gates_bound names) own;
       callable = called;
     }
 
@@ -137,8 +137,8 @@ definition_formed : (signature : Signature) (names : ℕ) (all : List Process) (
     × IsDefinition signature names all d.0.gates d.0.parameters d.0.exit d.1
 definition_formed signature names all visible numbers heading body d called have room is =
     let h = heading_formed signature numbers heading is.0 is.1 in
-    let both : length (spelled heading.gates ++ gates_in body) ≡ length (spelled heading.gates) + length (gates_in body) =
-    length-append (spelled heading.gates) (gates_in body) in
+    let both : length (spelled_names heading.gates ++ gates_in body) ≡ length (spelled_names heading.gates) + length (gates_in body) =
+    length-append (spelled_names heading.gates) (gates_in body) in
     let many = length_spelled heading.gates in
     let first : numbers.gate + length heading.gates ≤ names = omega (arith, room, both, many) in
     let later : (numbers.gate + length heading.gates) + length (gates_in body) ≤ names = omega (arith, room, both, many) in
@@ -221,11 +221,11 @@ mutual
   past_gate (inner_item item) numbers = omega arith
   past_gate (process heading body inner) numbers =
       let rest = past_all_gates inner (past_own heading body (past_name numbers)) in
-      let own : length (spelled heading.gates ++ gates_in body) ≡ length (spelled heading.gates) + length (gates_in body) =
-      length-append (spelled heading.gates) (gates_in body) in
-      let all : length ((spelled heading.gates ++ gates_in body) ++ inners_gates inner)
-      ≡ length (spelled heading.gates ++ gates_in body) + length (inners_gates inner) =
-      length-append (spelled heading.gates ++ gates_in body) (inners_gates inner) in
+      let own : length (spelled_names heading.gates ++ gates_in body) ≡ length (spelled_names heading.gates) + length (gates_in body) =
+      length-append (spelled_names heading.gates) (gates_in body) in
+      let all : length ((spelled_names heading.gates ++ gates_in body) ++ inners_gates inner)
+      ≡ length (spelled_names heading.gates ++ gates_in body) + length (inners_gates inner) =
+      length-append (spelled_names heading.gates ++ gates_in body) (inners_gates inner) in
       let many = length_spelled heading.gates in
       omega (arith, rest, own, all, many)
 
@@ -302,11 +302,11 @@ mutual
       subst (λ (qs : List Process). Every (Formed signature names all) qs) (sym (same_resolved ps [] is)) tt
   inner_formed signature names all front back visible before numbers (process heading body inner) ps are counted called have room is =
       let p = process_with heading is.2.0 in
-      let own : length (spelled heading.gates ++ gates_in body) ≡ length (spelled heading.gates) + length (gates_in body) =
-      length-append (spelled heading.gates) (gates_in body) in
-      let total : length ((spelled heading.gates ++ gates_in body) ++ inners_gates inner)
-      ≡ length (spelled heading.gates ++ gates_in body) + length (inners_gates inner) =
-      length-append (spelled heading.gates ++ gates_in body) (inners_gates inner) in
+      let own : length (spelled_names heading.gates ++ gates_in body) ≡ length (spelled_names heading.gates) + length (gates_in body) =
+      length-append (spelled_names heading.gates) (gates_in body) in
+      let total : length ((spelled_names heading.gates ++ gates_in body) ++ inners_gates inner)
+      ≡ length (spelled_names heading.gates ++ gates_in body) + length (inners_gates inner) =
+      length-append (spelled_names heading.gates ++ gates_in body) (inners_gates inner) in
       let many = length_spelled heading.gates in
       let first : (past_name numbers).gate + length (own_gates heading body) ≤ names = omega (arith, room, total) in
       let later : (past_own heading body (past_name numbers)).gate + length (inners_gates inner) ≤ names =
@@ -359,9 +359,9 @@ text_formed signature text specification have is =
     let total : length (own_gates text.heading text.body ++ inners_gates (inners_of text.inner))
     ≡ length (own_gates text.heading text.body) + length (inners_gates (inners_of text.inner)) =
     length-append (own_gates text.heading text.body) (inners_gates (inners_of text.inner)) in
-    let own : length (spelled text.heading.gates ++ gates_in text.body)
-    ≡ length (spelled text.heading.gates) + length (gates_in text.body) =
-    length-append (spelled text.heading.gates) (gates_in text.body) in
+    let own : length (spelled_names text.heading.gates ++ gates_in text.body)
+    ≡ length (spelled_names text.heading.gates) + length (gates_in text.body) =
+    length-append (spelled_names text.heading.gates) (gates_in text.body) in
     let many = length_spelled text.heading.gates in
     let first : 0 + length (own_gates text.heading text.body) ≤ names = omega (arith, total) in
     let later : (past_own text.heading text.body first_numbers).gate + length (inners_gates (inners_of text.inner)) ≤ names =

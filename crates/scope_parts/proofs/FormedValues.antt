@@ -9,6 +9,7 @@ use Rattle.lotos_base.specs.Term.{Term, node, no_terms}
 use Rattle.lotos_base.specs.Twins.{form_eq}
 use Rattle.lotos_base.specs.Equation.{Variable}
 use Rattle.lotos_base.specs.WrittenTerm.{WrittenTerm}
+use Rattle.lotos_base.proofs.Pieces.{no_member_by_length}
 use Rattle.sort_terms.specs.Reading.{IsScopeOver}
 use Rattle.sort_terms.specs.ReadingOutcome.{one_name}
 use Rattle.syntax_trees.specs.WrittenVariable.{WrittenVariable}
@@ -52,11 +53,6 @@ true_formed sort first (o ∷ operations) truth is = go (is_true sort o) refl is
         let rest = later there in
         (rest.0, suc rest.1, rest.2, omega (arith, rest.3), rest.4, rest.5)
 
-no_arguments : (sorts : List ℕ) → nat_eq (length sorts) 0 ≡ true → sorts ≡ []
-no_arguments [] is = refl
-no_arguments (s ∷ ss) is =
-    let none : suc (length ss) ≡ 0 = eqb-true _ _ is in absurd (let no : ⊥ = omega (arith, none) in no)
-
 -- the constant `true` is a term of the sort `Bool`
 truth_formed : (signature : Signature) (truth : Truth) → truth_in signature ≡ Some truth
     → HasSort signature (node truth.constant no_terms) truth.sort
@@ -74,7 +70,7 @@ truth_formed signature truth is = go (sort_named signature (codes "Bool")) is
           at.2,
           ap (slice_get signature.operations) number ∙ at.4,
           result_sort,
-          subst (λ (ss : List ℕ). HaveArgumentSorts signature no_terms ss) (sym (no_arguments at.2.arguments numbers.0)) tt,
+          subst (λ (ss : List ℕ). HaveArgumentSorts signature no_terms ss) (sym (no_member_by_length at.2.arguments numbers.0)) tt,
         )
 
 premiss_formed : (signature : Signature) (variables scope : List Variable) (p : WrittenPremiss) (right : Option WrittenTerm) (test : Test)

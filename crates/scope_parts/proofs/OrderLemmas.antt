@@ -1,30 +1,30 @@
 -- The order of places and of faults.
-use Rattle.std.proofs.Common.{◌≡◌, ◌≢◌, ◌<◌, ◌≤◌, ℕ, List, [], ◌∷◌, ◌++◌, nat_eq, nat_lt, Bool, true, false, ◌&&◌, ◌||◌, if◌then◌else◌, inl, inr, refl, ap, sym, ◌∙◌, subst, arith}
+use Rattle.std.proofs.Common.{◌≡◌, ◌<◌, ℕ, List, [], ◌∷◌, ◌++◌, nat_eq, nat_lt, Bool, true, false, ◌&&◌, ◌||◌, if◌then◌else◌, inl, inr, refl, ap, sym, ◌∙◌, subst, arith}
 use Rattle.std.specs.Prelude.{◌⊎◌}
-use Rattle.std.proofs.lemmas.Bool.{ltb-true, ltb-false, lt-ltb, eqb-true, eq-eqb, or_cases, or_left, and_from, or_right}
-use Rattle.std.proofs.lemmas.Bool.Decides.{eqb_tells}
+use Rattle.std.proofs.lemmas.Bool.{ltb-true, lt-ltb, eqb-true, eq-eqb, or_cases, or_left, and_from, or_right}
 use Rattle.std.specs.Cmp.{first_so, second_so}
 use Rattle.lotos_base.specs.Equation.{Place}
-use Rattle.scope_parts.specs.ScopeFault.{ScopeFault, fault_place, stands_before, first_of_two}
-use Rattle.scope_parts.specs.Order.{IsOneOf, StandWhollyBefore, rank, NotAfter}
+use Rattle.lotos_base.proofs.Numbers.{compared}
+use Rattle.scope_parts.specs.ScopeFault.{ScopeFault, fault_place, stands_before, first_fault_of_two}
+use Rattle.scope_parts.specs.Order.{IsOneOfPlaces, StandWhollyBefore, rank, NotAfter}
 
 -- ---- Lists of places
 
-pub in_left : (p : Place) (ps qs : List Place) → IsOneOf p ps → IsOneOf p (ps ++ qs)
+pub in_left : (p : Place) (ps qs : List Place) → IsOneOfPlaces p ps → IsOneOfPlaces p (ps ++ qs)
 in_left p [] qs is = absurd is
 in_left p (q ∷ ps) qs (inl is) = inl is
 in_left p (q ∷ ps) qs (inr is) = inr (in_left p ps qs is)
 
-pub in_right : (p : Place) (ps qs : List Place) → IsOneOf p qs → IsOneOf p (ps ++ qs)
+pub in_right : (p : Place) (ps qs : List Place) → IsOneOfPlaces p qs → IsOneOfPlaces p (ps ++ qs)
 in_right p [] qs is = is
 in_right p (q ∷ ps) qs is = inr (in_right p ps qs is)
 
-pub in_either : (p : Place) (ps qs : List Place) → IsOneOf p (ps ++ qs) → IsOneOf p ps ⊎ IsOneOf p qs
+pub in_either : (p : Place) (ps qs : List Place) → IsOneOfPlaces p (ps ++ qs) → IsOneOfPlaces p ps ⊎ IsOneOfPlaces p qs
 in_either p [] qs is = inr is
 in_either p (q ∷ ps) qs (inl is) = inl (inl is)
 in_either p (q ∷ ps) qs (inr is) = by_rest (in_either p ps qs is)
   where
-    by_rest : IsOneOf p ps ⊎ IsOneOf p qs → IsOneOf p (q ∷ ps) ⊎ IsOneOf p qs
+    by_rest : IsOneOfPlaces p ps ⊎ IsOneOfPlaces p qs → IsOneOfPlaces p (q ∷ ps) ⊎ IsOneOfPlaces p qs
     by_rest (inl there) = inl (inr there)
     by_rest (inr there) = inr there
 
@@ -32,14 +32,14 @@ in_either p (q ∷ ps) qs (inr is) = by_rest (in_either p ps qs is)
 pub before_both : (ps qs rs : List Place) → StandWhollyBefore ps qs → StandWhollyBefore ps rs → StandWhollyBefore ps (qs ++ rs)
 before_both ps qs rs first later p q here there = by_side (in_either q qs rs there)
   where
-    by_side : IsOneOf q qs ⊎ IsOneOf q rs → stands_before p q ≡ true
+    by_side : IsOneOfPlaces q qs ⊎ IsOneOfPlaces q rs → stands_before p q ≡ true
     by_side (inl is) = first p q here is
     by_side (inr is) = later p q here is
 
 pub both_before : (ps qs rs : List Place) → StandWhollyBefore ps rs → StandWhollyBefore qs rs → StandWhollyBefore (ps ++ qs) rs
 both_before ps qs rs first later p q here there = by_side (in_either p ps qs here)
   where
-    by_side : IsOneOf p ps ⊎ IsOneOf p qs → stands_before p q ≡ true
+    by_side : IsOneOfPlaces p ps ⊎ IsOneOfPlaces p qs → stands_before p q ≡ true
     by_side (inl is) = first p q is there
     by_side (inr is) = later p q is there
 
@@ -103,20 +103,9 @@ earlier_next p q r (inr h) (inr k) = inr (h.0 ∙ k.0, column_next p q r h.1 k.1
 pub before_next : (p q r : Place) → stands_before p q ≡ true → stands_before q r ≡ true → stands_before p r ≡ true
 before_next p q r h k = from_earlier p r (earlier_next p q r (to_earlier p q h) (to_earlier q r k))
 
-which : (a b : ℕ) → (a < b) ⊎ ((a ≡ b) ⊎ (b < a))
-which a b = by_less (nat_lt a b) refl
-  where
-    by_equal : b ≤ a → ((nat_eq a b ≡ true) × (a ≡ b)) ⊎ ((nat_eq a b ≡ false) × (a ≢ b)) → (a < b) ⊎ ((a ≡ b) ⊎ (b < a))
-    by_equal le (inl is) = inr (inl is.1)
-    by_equal le (inr is) = inr (inr (let ne : a ≢ b = is.1 in omega (arith, le, ne)))
-
-    by_less : (t : Bool) → nat_lt a b ≡ t → (a < b) ⊎ ((a ≡ b) ⊎ (b < a))
-    by_less true e = inl (ltb-true a b e)
-    by_less false e = by_equal (ltb-false a b e) (eqb_tells a b)
-
 -- of two places one is before the other, or they are one
 pub one_before : (p q : Place) → (Earlier p q) ⊎ ((p ≡ q) ⊎ (Earlier q p))
-one_before p q = by_text (which p.text q.text)
+one_before p q = by_text (compared p.text q.text)
   where
     one_place : p.text ≡ q.text → p.line ≡ q.line → p.column ≡ q.column → p ≡ q
     one_place a b c =
@@ -132,12 +121,12 @@ one_before p q = by_text (which p.text q.text)
 
     by_line : p.text ≡ q.text → (p.line < q.line) ⊎ ((p.line ≡ q.line) ⊎ (q.line < p.line)) → (Earlier p q) ⊎ ((p ≡ q) ⊎ (Earlier q p))
     by_line a (inl is) = inl (inr (a, inl is))
-    by_line a (inr (inl is)) = by_column a is (which p.column q.column)
+    by_line a (inr (inl is)) = by_column a is (compared p.column q.column)
     by_line a (inr (inr is)) = inr (inr (inr (sym a, inl is)))
 
     by_text : (p.text < q.text) ⊎ ((p.text ≡ q.text) ⊎ (q.text < p.text)) → (Earlier p q) ⊎ ((p ≡ q) ⊎ (Earlier q p))
     by_text (inl is) = inl (inl is)
-    by_text (inr (inl is)) = by_line is (which p.line q.line)
+    by_text (inr (inl is)) = by_line is (compared p.line q.line)
     by_text (inr (inr is)) = inr (inr (inl is))
 
 pub not_before : (p q : Place) → stands_before p q ≡ false → (stands_before q p ≡ true) ⊎ (q ≡ p)
@@ -160,7 +149,7 @@ not_after_next f g h (inr a) (inl b) = inl (subst (λ (p : Place). stands_before
 not_after_next f g h (inr a) (inr b) = inr (a.0 ∙ b.0, omega (arith, a.1, b.1))
 
 -- the first of two faults comes after neither
-pub first_not_after : (d o : ScopeFault) → rank d ≡ 0 → NotAfter (first_of_two d o) d × NotAfter (first_of_two d o) o
+pub first_not_after : (d o : ScopeFault) → rank d ≡ 0 → NotAfter (first_fault_of_two d o) d × NotAfter (first_fault_of_two d o) o
 first_not_after d o least = by_test (stands_before (fault_place o) (fault_place d)) refl
   where
     by_place : (stands_before (fault_place d) (fault_place o) ≡ true) ⊎ (fault_place d ≡ fault_place o) → NotAfter d o
@@ -173,7 +162,7 @@ first_not_after d o least = by_test (stands_before (fault_place o) (fault_place 
     by_test false e = (same_not_after d d refl, by_place (not_before (fault_place o) (fault_place d) e))
 
 -- what both faults have the first of them has
-pub first_has : (P : ScopeFault → Type 0) (d o : ScopeFault) → P d → P o → P (first_of_two d o)
+pub first_has : (P : ScopeFault → Type 0) (d o : ScopeFault) → P d → P o → P (first_fault_of_two d o)
 first_has P d o h k = by_test (stands_before (fault_place o) (fault_place d))
   where
     by_test : (b : Bool) → P (if b then o else d)

@@ -21,7 +21,7 @@ use Rattle.scope_parts.specs.Terms.{TermIs, TrueTermIs, PremissIs, TestIs, TestO
 use Rattle.scope_parts.specs.Choices.{sign_at, choices_follow, signs_follow, placed_choices, choices_at, par_choices_at, with_signs}
 use Rattle.behaviour_semantics.specs.Behaviour.{at_gates}
 use Rattle.scope_parts.proofs.OnceLemmas.{Once, is_once, then_once, made_once, in_front_once, beside_once, outcome_once}
-use Rattle.scope_parts.specs.Order.{IsOneOf, StandWhollyBefore, InTurn, Rising, joined, NotAfter}
+use Rattle.scope_parts.specs.Order.{IsOneOfPlaces, StandWhollyBefore, InTurn, Rising, joined_places, NotAfter}
 use Rattle.scope_parts.specs.TermPlaces.{name_places, term_places}
 use Rattle.scope_parts.specs.PartFaults.{GatesHave, SortsHave, VariableSortsHave, VariablesHave, ExitValuesHave, ValuesHave, BindingsHave, LetHas, OffersFollowing, OffersHave, AmongHave, ChoicesHave, SignHas, SignsHave}
 use Rattle.scope_parts.specs.PartPlaces.{SortsFollow, VariablesFollow, exit_value_places, exit_places, value_places, binding_places, bindings_places, LetFollows, OfferFollows, OffersInTurn, OffersFollowOn, AmongFollow, ChoicesFollow, choice_places, sign_places, SignFollows}
@@ -33,12 +33,14 @@ use Rattle.scope_parts.proofs.TermsWithin.{term_within}
 use Rattle.scope_parts.proofs.PartsWithin.{gate_place, gates_within, sort_lacking, sorts_within, variable_lacking, exit_value_within, exit_values_within, values_within, binding_within, bindings_within, offer_within, choices_within, signs_within}
 
 -- a list before each of some lists is before all of them
-pub before_all : (ps : List Place) (rest : List (List Place)) → Every (StandWhollyBefore ps) rest → StandWhollyBefore ps (joined rest)
+pub before_all : (ps : List Place) (rest : List (List Place)) → Every (StandWhollyBefore ps) rest
+    → StandWhollyBefore ps (joined_places rest)
 before_all ps [] all p q here there = absurd there
 before_all ps (qs ∷ rest) all p q here there =
-    by_side (in_either q qs (joined rest) there) (λ is. before_all ps rest all.1 p q here is)
+    by_side (in_either q qs (joined_places rest) there) (λ is. before_all ps rest all.1 p q here is)
   where
-    by_side : IsOneOf q qs ⊎ IsOneOf q (joined rest) → (IsOneOf q (joined rest) → stands_before p q ≡ true) → stands_before p q ≡ true
+    by_side : IsOneOfPlaces q qs ⊎ IsOneOfPlaces q (joined_places rest) → (IsOneOfPlaces q (joined_places rest) → stands_before p q ≡ true)
+        → stands_before p q ≡ true
     by_side (inl is) later = all.0 p q here is
     by_side (inr is) later = later is
 
@@ -159,7 +161,8 @@ exit_values_tell signature scope [] turn = done_tells []
 exit_values_tell signature scope (v ∷ vs) turn =
     then_tells (single_tells (exit_value_once signature scope v))
     (λ x is. in_front_tells x (exit_values_tell signature scope vs turn.1))
-    (apart (exit_value_places v) (joined (exit_places vs)) (exit_value_within signature scope v) (exit_values_within signature scope vs)
+    (apart (exit_value_places v) (joined_places (exit_places vs)) (exit_value_within signature scope v)
+    (exit_values_within signature scope vs)
     (before_all (exit_value_places v) (exit_places vs) turn.0))
 
 pub values_tell : (signature : Signature) (scope : List Variable) (sorts : List (Option ℕ)) (ts : List WrittenTerm)
@@ -170,7 +173,8 @@ values_tell signature scope (None ∷ sorts) (t ∷ ts) turn = values_tell signa
 values_tell signature scope (Some s ∷ sorts) (t ∷ ts) turn =
     then_tells (single_tells (term_once signature scope t (Some s)))
     (λ x is. in_front_tells x (values_tell signature scope sorts ts turn.1))
-    (apart (term_places t) (joined (value_places ts)) (term_within signature scope t (Some s)) (values_within signature scope sorts ts)
+    (apart (term_places t) (joined_places (value_places ts)) (term_within signature scope t (Some s))
+    (values_within signature scope sorts ts)
     (before_all (term_places t) (value_places ts) turn.0))
 
 bindings_tell : (signature : Signature) (scope : List Variable) (next : ℕ) (bs : List (WrittenVariable × WrittenTerm))
@@ -179,7 +183,7 @@ bindings_tell signature scope next [] turn = done_tells []
 bindings_tell signature scope next (b ∷ bs) turn =
     then_tells (single_tells (binding_once signature scope next b))
     (λ x is. in_front_tells x (bindings_tell signature scope (suc next) bs turn.1))
-    (apart (binding_places b) (joined (bindings_places bs)) (binding_within signature scope next b)
+    (apart (binding_places b) (joined_places (bindings_places bs)) (binding_within signature scope next b)
     (bindings_within signature scope (suc next) bs) (before_all (binding_places b) (bindings_places bs) turn.0))
 
 pub let_tells : (signature : Signature) (scope : List Variable) (next : ℕ) (bs : List (WrittenVariable × WrittenTerm)) → LetFollows bs

@@ -15,7 +15,7 @@ use Rattle.scope_parts.specs.Numbering.{asked_for}
 use Rattle.scope_parts.specs.Sorts.{found_sort, sort_named, sort_at, variable_at, placed_variables}
 use Rattle.scope_parts.specs.Terms.{ExitValueIs, BindingIs, OfferIs, past_offer, let_names}
 use Rattle.scope_parts.specs.Choices.{placed_choices}
-use Rattle.scope_parts.specs.Order.{joined}
+use Rattle.scope_parts.specs.Order.{joined_places}
 use Rattle.scope_parts.specs.TermPlaces.{name_places, term_places}
 use Rattle.scope_parts.specs.PartFaults.{GatesHave, SortsHave, VariableSortsHave, VariablesHave, ExitValuesHave, ValuesHave, BindingsHave, LetHas, OffersFollowing, OffersHave, AmongHave, ChoicesHave, SignHas, SignsHave}
 use Rattle.scope_parts.specs.PartPlaces.{sort_places, variable_places, exit_value_places, exit_places, value_places, binding_places, bindings_places, let_places, offer_places, offered_places, offers_places, among_places, choice_places, sign_places}
@@ -87,23 +87,23 @@ exit_value_within signature scope (exit_term t) f h = term_within signature scop
 exit_value_within signature scope (exit_any s) f h = inl (ap fault_place (sort_lacking signature s.place s.name f h))
 
 pub exit_values_within : (signature : Signature) (scope : List Variable) (vs : List WrittenExitValue)
-    → Within (ExitValuesHave signature scope vs) (joined (exit_places vs))
+    → Within (ExitValuesHave signature scope vs) (joined_places (exit_places vs))
 exit_values_within signature scope [] f h = absurd h
 exit_values_within signature scope (v ∷ vs) f (inl h) =
-    in_left (fault_place f) (exit_value_places v) (joined (exit_places vs)) (exit_value_within signature scope v f h)
+    in_left (fault_place f) (exit_value_places v) (joined_places (exit_places vs)) (exit_value_within signature scope v f h)
 exit_values_within signature scope (v ∷ vs) f (inr h) =
-    in_right (fault_place f) (exit_value_places v) (joined (exit_places vs)) (exit_values_within signature scope vs f h)
+    in_right (fault_place f) (exit_value_places v) (joined_places (exit_places vs)) (exit_values_within signature scope vs f h)
 
 pub values_within : (signature : Signature) (scope : List Variable) (sorts : List (Option ℕ)) (ts : List WrittenTerm)
-    → Within (ValuesHave signature scope sorts ts) (joined (value_places ts))
+    → Within (ValuesHave signature scope sorts ts) (joined_places (value_places ts))
 values_within signature scope [] ts f h = absurd h
 values_within signature scope (s ∷ sorts) [] f h = absurd h
 values_within signature scope (None ∷ sorts) (t ∷ ts) f h =
-    in_right (fault_place f) (term_places t) (joined (value_places ts)) (values_within signature scope sorts ts f h)
+    in_right (fault_place f) (term_places t) (joined_places (value_places ts)) (values_within signature scope sorts ts f h)
 values_within signature scope (Some s ∷ sorts) (t ∷ ts) f (inl h) =
-    in_left (fault_place f) (term_places t) (joined (value_places ts)) (term_within signature scope t (Some s) f h)
+    in_left (fault_place f) (term_places t) (joined_places (value_places ts)) (term_within signature scope t (Some s) f h)
 values_within signature scope (Some s ∷ sorts) (t ∷ ts) f (inr h) =
-    in_right (fault_place f) (term_places t) (joined (value_places ts)) (values_within signature scope sorts ts f h)
+    in_right (fault_place f) (term_places t) (joined_places (value_places ts)) (values_within signature scope sorts ts f h)
 
 pub binding_within : (signature : Signature) (scope : List Variable) (next : ℕ) (b : WrittenVariable × WrittenTerm)
     → Within (λ f. BindingIs signature scope next b (faulty f)) (binding_places b)
@@ -111,20 +111,20 @@ binding_within signature scope next b f (inl h) = inl (ap fault_place (variable_
 binding_within signature scope next b f (inr h) = inr (term_within signature scope b.1 (Some h.0.sort) f h.2)
 
 pub bindings_within : (signature : Signature) (scope : List Variable) (next : ℕ) (bs : List (WrittenVariable × WrittenTerm))
-    → Within (BindingsHave signature scope next bs) (joined (bindings_places bs))
+    → Within (BindingsHave signature scope next bs) (joined_places (bindings_places bs))
 bindings_within signature scope next [] f h = absurd h
 bindings_within signature scope next (b ∷ bs) f (inl h) =
-    in_left (fault_place f) (binding_places b) (joined (bindings_places bs)) (binding_within signature scope next b f h)
+    in_left (fault_place f) (binding_places b) (joined_places (bindings_places bs)) (binding_within signature scope next b f h)
 bindings_within signature scope next (b ∷ bs) f (inr h) =
-    in_right (fault_place f) (binding_places b) (joined (bindings_places bs)) (bindings_within signature scope (suc next) bs f h)
+    in_right (fault_place f) (binding_places b) (joined_places (bindings_places bs)) (bindings_within signature scope (suc next) bs f h)
 
 pub let_within : (signature : Signature) (scope : List Variable) (next : ℕ) (bs : List (WrittenVariable × WrittenTerm))
     → Within (LetHas signature scope next bs) (let_places bs)
 let_within signature scope next bs f (inl h) =
-    in_left (fault_place f) (name_places (placed_variables (let_names bs))) (joined (bindings_places bs))
+    in_left (fault_place f) (name_places (placed_variables (let_names bs))) (joined_places (bindings_places bs))
     (doubled_within [] (placed_variables (let_names bs)) f h)
 let_within signature scope next bs f (inr h) =
-    in_right (fault_place f) (name_places (placed_variables (let_names bs))) (joined (bindings_places bs))
+    in_right (fault_place f) (name_places (placed_variables (let_names bs))) (joined_places (bindings_places bs))
     (bindings_within signature scope next bs f h)
 
 pub offer_within : (signature : Signature) (scope : List Variable) (next : ℕ) (o : WrittenOffer)
@@ -133,21 +133,21 @@ offer_within signature scope next (offer_value t) f h = term_within signature sc
 offer_within signature scope next (offer_variable x) f h = inl (ap fault_place (variable_lacking signature next x f h))
 
 pub offers_following_within : (signature : Signature) (scope : List Variable) (next : ℕ) (os : List WrittenOffer)
-    → Within (OffersFollowing signature scope next os) (joined (offered_places os))
+    → Within (OffersFollowing signature scope next os) (joined_places (offered_places os))
 offers_following_within signature scope next [] f h = absurd h
 offers_following_within signature scope next (o ∷ os) f (inl h) =
-    in_left (fault_place f) (offer_places o) (joined (offered_places os)) (offer_within signature scope next o f h)
+    in_left (fault_place f) (offer_places o) (joined_places (offered_places os)) (offer_within signature scope next o f h)
 offers_following_within signature scope next (o ∷ os) f (inr h) =
-    in_right (fault_place f) (offer_places o) (joined (offered_places os))
+    in_right (fault_place f) (offer_places o) (joined_places (offered_places os))
     (offers_following_within signature scope (past_offer o next) os f h)
 
 pub offers_within : (signature : Signature) (scope : List Variable) (next : ℕ) (os : List WrittenOffer)
     → Within (OffersHave signature scope next os) (offers_places os)
 offers_within signature scope next os f (inl h) =
-    in_left (fault_place f) (name_places (placed_variables (asked_for os))) (joined (offered_places os))
+    in_left (fault_place f) (name_places (placed_variables (asked_for os))) (joined_places (offered_places os))
     (doubled_within [] (placed_variables (asked_for os)) f h)
 offers_within signature scope next os f (inr h) =
-    in_right (fault_place f) (name_places (placed_variables (asked_for os))) (joined (offered_places os))
+    in_right (fault_place f) (name_places (placed_variables (asked_for os))) (joined_places (offered_places os))
     (offers_following_within signature scope next os f h)
 
 -- ---- Declared gates, and signs

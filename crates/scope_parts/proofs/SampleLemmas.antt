@@ -4,7 +4,7 @@ use Rattle.std.specs.Cmp.{first_so, second_so}
 use Rattle.lotos_base.specs.Equation.{Place}
 use Rattle.behaviour_semantics.specs.WellFormed.{Every}
 use Rattle.scope_parts.specs.ScopeFault.{stands_before}
-use Rattle.scope_parts.specs.Order.{IsOneOf, StandWhollyBefore, InTurn, Rising}
+use Rattle.scope_parts.specs.Order.{IsOneOfPlaces, StandWhollyBefore, InTurn, Rising}
 use Rattle.scope_parts.specs.Sample.{column, sample_heading, sample_offer, sample_end, sample_body, SampleRises}
 use Rattle.scope_parts.specs.PartPlaces.{OffersFollowOn}
 use Rattle.scope_parts.specs.BehaviourPlaces.{behaviour_places, Follows}
@@ -30,7 +30,7 @@ abbrev rising_test : List Place → Bool
 rising_test [] = true
 rising_test (p ∷ ps) = before_test (p ∷ []) ps && rising_test ps
 
-one_tested : (p q : Place) (qs : List Place) → one_test p qs ≡ true → IsOneOf q qs → stands_before p q ≡ true
+one_tested : (p q : Place) (qs : List Place) → one_test p qs ≡ true → IsOneOfPlaces q qs → stands_before p q ≡ true
 one_tested p q [] e is = absurd is
 one_tested p q (r ∷ qs) e (inl is) =
     subst (λ (x : Place). stands_before p x ≡ true) (sym is) (first_so (stands_before p r) (one_test p qs) e)

@@ -188,7 +188,7 @@ mutual
 
 -- ---- What a question comes to
 
-comes_moved : {A : Type 0} (unknown : List ReadingRefusal) (place : Place) (P Q : A → Type 0) → ((x : A) → P x → Q x)
+pub comes_moved : {A : Type 0} (unknown : List ReadingRefusal) (place : Place) (P Q : A → Type 0) → ((x : A) → P x → Q x)
     → ((x : A) → Q x → P x)
     → (o : ReadingOutcome A) → ComesTo unknown place P o → ComesTo unknown place Q o
 comes_moved (first ∷ rest) place P Q out back (answered x) h = absurd h

@@ -7,7 +7,7 @@ use Rattle.lotos_base.specs.WrittenTerm.{PlacedName}
 use Rattle.scope_parts.specs.ScopeFault.{ScopeFault, fault_place}
 use Rattle.scope_parts.specs.Resolution.{Resolution, resolved, faulty, and_then, put_in_front, beside, Is, ThenResolves, Made, InFront, Beside}
 use Rattle.scope_parts.proofs.OnceLemmas.{Once}
-use Rattle.scope_parts.specs.Order.{IsOneOf, StandWhollyBefore, NotAfter}
+use Rattle.scope_parts.specs.Order.{IsOneOfPlaces, StandWhollyBefore, NotAfter}
 use Rattle.scope_parts.specs.PartFaults.{Seeing}
 use Rattle.scope_parts.specs.FirstFault.{TellsFirstFault}
 use Rattle.scope_parts.proofs.OrderLemmas.{same_not_after}
@@ -21,7 +21,7 @@ same_fault f g e = cc
 
 -- the faults stand among these places
 abbrev pub Within : (ScopeFault → Type 0) → List Place → Type 0
-Within Has ps = (f : ScopeFault) → Has f → IsOneOf (fault_place f) ps
+Within Has ps = (f : ScopeFault) → Has f → IsOneOfPlaces (fault_place f) ps
 
 -- the faults of the first part do not come after those of the second
 abbrev pub Apart : (ScopeFault → Type 0) → (ScopeFault → Type 0) → Type 0

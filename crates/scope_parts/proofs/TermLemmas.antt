@@ -1,6 +1,6 @@
 -- What a reader answers over the variables that a term sees, as a resolution over all that is visible.
 use Rattle.std.proofs.Common.{◌≡◌, ℕ, List, ◌++◌, refl, ap, sym, subst}
-use Rattle.std.specs.Prelude.{Option, None, Some}
+use Rattle.std.specs.Prelude.{Option, Some}
 use Rattle.lotos_base.specs.WrittenTerm.{WrittenTerm}
 use Rattle.lotos_base.specs.Signature.{Signature}
 use Rattle.lotos_base.specs.Term.{Term, node, no_terms}
@@ -11,7 +11,6 @@ use Rattle.sort_terms.specs.RefusalView.{UnlessNoMemory}
 use Rattle.sort_terms.specs.declared.sort_faults.SortFault.{SortFault}
 use Rattle.sort_terms.specs.declared.sort_faults.SortFault.TheVariants as sort
 use Rattle.scope_parts.specs.Resolution.{resolved, faulty}
-use Rattle.scope_parts.specs.ScopeFault.{no_bool}
 use Rattle.scope_parts.specs.Sorts.{Truth}
 use Rattle.scope_parts.specs.declared.scope_faults.ScopeFault.{ScopeFault}
 use Rattle.syntax_trees.specs.WrittenEquation.{WrittenPremiss}
@@ -110,8 +109,3 @@ pub true_refused : (signature : Signature) (scope : List Variable) (p : WrittenP
     → FaultIs fault (λ f. TrueTermIs signature scope p o (faulty f))
 true_refused signature scope p o truth fault found is =
     subst (λ (x : Option Truth). FaultIs fault (λ f. TrueTermIs signature scope p x (faulty f))) found is
-
-pub true_missing : (signature : Signature) (scope : List Variable) (p : WrittenPremiss) (o : Option Truth) → None ≡ o
-    → TrueTermIs signature scope p o (faulty (no_bool p.place))
-true_missing signature scope p o none =
-    subst (λ (x : Option Truth). TrueTermIs signature scope p x (faulty (no_bool p.place))) none refl

@@ -6,12 +6,12 @@ use Rattle.lotos_base.specs.Signature.{Signature, Form, prefix_form, infix_form}
 use Rattle.lotos_base.specs.WrittenTerm.{PlacedName, WrittenHead, WrittenTerm, WrittenTerms, written, no_written, written_then, written_head}
 use Rattle.syntax_trees.specs.WrittenEquation.{WrittenPremiss}
 use Rattle.behaviour_semantics.specs.WellFormed.{Every}
-use Rattle.sort_terms.specs.ReadingOutcome.{ReadingRefusal, unknown_name, unknown_sort as unknown_of, is_sort_name, is_known, unknown_at, unknown_sorts, together, in_text_order, unknown_in, unknown_in_each, ReadingOutcome, refused, ComesTo, ReadingIs, PairReadingIs}
+use Rattle.sort_terms.specs.ReadingOutcome.{ReadingRefusal, unknown_name, unknown_sort as unknown_of, is_sort_name, is_known, unknown_at, unknown_sorts, refusals_together, in_text_order, unknown_in, unknown_in_each, ReadingOutcome, refused, ComesTo, ReadingIs, PairReadingIs}
 use Rattle.scope_parts.specs.ScopeFault.{unknown_gate, unknown_process, unknown_sort, double_name, gate_count, value_count, no_bool, refused_term, fault_place, refusal_place}
 use Rattle.scope_parts.specs.Resolution.{faulty}
 use Rattle.scope_parts.specs.Sorts.{Truth, truth_in}
 use Rattle.scope_parts.specs.Terms.{AsResolution, TermIs, TrueTermIs, PremissIs, TestIs, TestOptionIs}
-use Rattle.scope_parts.specs.Order.{IsOneOf}
+use Rattle.scope_parts.specs.Order.{IsOneOfPlaces}
 use Rattle.scope_parts.specs.TermPlaces.{name_places, term_places, terms_places, right_places, premiss_places}
 use Rattle.scope_parts.specs.BehaviourPlaces.{test_places}
 use Rattle.scope_parts.proofs.OrderLemmas.{in_left, in_right}
@@ -19,30 +19,30 @@ use Rattle.scope_parts.proofs.TellsLemmas.{Within, same_fault}
 
 -- the refusals of a list stand among these places
 abbrev Stand : List Place → List ReadingRefusal → Type 0
-Stand ps refusals = Every (λ (r : ReadingRefusal). IsOneOf (refusal_place r) ps) refusals
+Stand ps refusals = Every (λ (r : ReadingRefusal). IsOneOfPlaces (refusal_place r) ps) refusals
 
 -- the places are among the others
 abbrev Among : List Place → List Place → Type 0
-Among qs ps = (p : Place) → IsOneOf p qs → IsOneOf p ps
+Among qs ps = (p : Place) → IsOneOfPlaces p qs → IsOneOfPlaces p ps
 
 stand_both : (ps : List Place) (one other : List ReadingRefusal) → Stand ps one → Stand ps other → Stand ps (one ++ other)
 stand_both ps [] other first later = later
 stand_both ps (r ∷ one) other first later = (first.0, stand_both ps one other first.1 later)
 
-stand_all : (ps : List Place) (lists : List (List ReadingRefusal)) → Every (Stand ps) lists → Stand ps (together lists)
+stand_all : (ps : List Place) (lists : List (List ReadingRefusal)) → Every (Stand ps) lists → Stand ps (refusals_together lists)
 stand_all ps [] all = tt
-stand_all ps (list ∷ lists) all = stand_both ps list (together lists) all.0 (stand_all ps lists all.1)
+stand_all ps (list ∷ lists) all = stand_both ps list (refusals_together lists) all.0 (stand_all ps lists all.1)
 
 stand_in_order : (ps : List Place) (form : Form) (here : List ReadingRefusal) (lists : List (List ReadingRefusal)) → Stand ps here
     → Every (Stand ps) lists
     → Stand ps (in_text_order form here lists)
-stand_in_order ps prefix_form here lists at all = stand_both ps here (together lists) at (stand_all ps lists all)
+stand_in_order ps prefix_form here lists at all = stand_both ps here (refusals_together lists) at (stand_all ps lists all)
 stand_in_order ps infix_form here [] at all = stand_both ps here [] at tt
 stand_in_order ps infix_form here (list ∷ lists) at all =
-    stand_both ps ((list ++ []) ++ here) (together lists) (stand_both ps (list ++ []) here (stand_both ps list [] all.0 tt) at)
+    stand_both ps ((list ++ []) ++ here) (refusals_together lists) (stand_both ps (list ++ []) here (stand_both ps list [] all.0 tt) at)
     (stand_all ps lists all.1)
 
-name_stands : (ps : List Place) (signature : Signature) (scope : List Variable) (head : WrittenHead) → IsOneOf head.place ps
+name_stands : (ps : List Place) (signature : Signature) (scope : List Variable) (head : WrittenHead) → IsOneOfPlaces head.place ps
     → Stand ps (unknown_at signature scope head)
 name_stands ps signature scope head is = by_test (is_known signature scope head)
   where
@@ -81,18 +81,18 @@ mutual
     terms_stand ps signature scope ws (λ p is. among p (in_right p (term_places w) (terms_places ws) is)),
   )
 
-head_among : (w : WrittenTerm) → IsOneOf (written_head w).place (term_places w)
+head_among : (w : WrittenTerm) → IsOneOfPlaces (written_head w).place (term_places w)
 head_among (written head arguments) = inl refl
 
 refusal_stands : {A : Type 0} (ps : List Place) (unknown : List ReadingRefusal) (place : Place) (P : A → Type 0) (r : ReadingRefusal)
     → Stand ps unknown
-    → IsOneOf place ps → ComesTo unknown place P (refused r) → IsOneOf (refusal_place r) ps
-refusal_stands ps (q ∷ rest) place P r all at is = subst (λ (x : ReadingRefusal). IsOneOf (refusal_place x) ps) (sym is) all.0
-refusal_stands ps [] place P r all at (inl is) = subst (λ (x : ReadingRefusal). IsOneOf (refusal_place x) ps) (sym is.1) at
-refusal_stands ps [] place P r all at (inr is) = subst (λ (x : ReadingRefusal). IsOneOf (refusal_place x) ps) (sym is.1) at
+    → IsOneOfPlaces place ps → ComesTo unknown place P (refused r) → IsOneOfPlaces (refusal_place r) ps
+refusal_stands ps (q ∷ rest) place P r all at is = subst (λ (x : ReadingRefusal). IsOneOfPlaces (refusal_place x) ps) (sym is) all.0
+refusal_stands ps [] place P r all at (inl is) = subst (λ (x : ReadingRefusal). IsOneOfPlaces (refusal_place x) ps) (sym is.1) at
+refusal_stands ps [] place P r all at (inr is) = subst (λ (x : ReadingRefusal). IsOneOfPlaces (refusal_place x) ps) (sym is.1) at
 
 only_refusals : {A : Type 0} (ps : List Place) (C : ReadingOutcome A → Type 0)
-    → ((r : ReadingRefusal) → C (refused r) → IsOneOf (refusal_place r) ps)
+    → ((r : ReadingRefusal) → C (refused r) → IsOneOfPlaces (refusal_place r) ps)
     → Within (λ f. AsResolution C (faulty f)) ps
 only_refusals ps C so (unknown_gate place name) h = absurd h
 only_refusals ps C so (unknown_process place name) h = absurd h
@@ -128,7 +128,7 @@ premiss_within : (signature : Signature) (scope : List Variable) (p : WrittenPre
 premiss_within signature scope p None f h = by_truth (truth_in signature) h
   where
     by_truth : (truth : Option Truth) → TrueTermIs signature scope p truth (faulty f)
-        → IsOneOf (fault_place f) (p.place ∷ (term_places p.left ++ []))
+        → IsOneOfPlaces (fault_place f) (p.place ∷ (term_places p.left ++ []))
     by_truth None h = inl (ap fault_place (same_fault f (no_bool p.place) h))
     by_truth (Some truth) h =
         inr (in_left (fault_place f) (term_places p.left) [] (term_within signature scope p.left (Some truth.sort) f h))

@@ -11,7 +11,7 @@ use Rattle.lotos_base.specs.Term.{Term}
 use Rattle.scope_parts.specs.ScopeFault.{ScopeFault, unknown_process, gate_count, value_count}
 use Rattle.scope_parts.specs.Resolution.{faulty, Is}
 use Rattle.scope_parts.specs.Scope.{Scope, Callable, callable_named, gate_at}
-use Rattle.scope_parts.specs.Numbering.{Numbers, spelled, each_once, asked_for, choice_names, past_gates, past_variables, past}
+use Rattle.scope_parts.specs.Numbering.{Numbers, spelled_names, each_once, asked_for, choice_names, past_gates, past_variables, past}
 use Rattle.scope_parts.specs.Sorts.{variables_at}
 use Rattle.scope_parts.specs.Terms.{TestIs, TestOptionIs, LetIs, OffersAre}
 use Rattle.scope_parts.specs.Behaviours.{with_gates, with_variables}
@@ -63,8 +63,8 @@ HasFault signature scope numbers (written.inner_action place next) fault = HasFa
 HasFault signature scope numbers (written.guard place test next) fault =
     TestIs signature scope.variables test (faulty fault) ⊎ HasFault signature scope numbers next fault
 HasFault signature scope numbers (written.hide place gates inside) fault =
-    HasFault signature (with_gates (each_once (spelled gates)) numbers.gate scope)
-    (past_gates (length (each_once (spelled gates))) numbers) inside fault
+    HasFault signature (with_gates (each_once (spelled_names gates)) numbers.gate scope)
+    (past_gates (length (each_once (spelled_names gates))) numbers) inside fault
 HasFault signature scope numbers (written.let_be place values inside) fault =
     LetHas signature scope.variables numbers.variable values fault
     ⊎ Seeing (LetIs signature scope.variables numbers.variable values)

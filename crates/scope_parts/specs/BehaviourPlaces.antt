@@ -3,7 +3,7 @@ use Rattle.std.specs.Prelude.{List, [], ◌∷◌, ◌++◌, Option, None, Some}
 use Rattle.lotos_base.specs.Equation.{Place}
 use Rattle.syntax_trees.specs.WrittenEquation.{WrittenPremiss}
 use Rattle.syntax_trees.specs.WrittenBehaviour.{WrittenBehaviour, stop, exit, call, action, inner_action, guard, hide, let_be, choose_value, choose_gate, par_gate, binary}
-use Rattle.scope_parts.specs.Order.{InTurn, Rising, joined}
+use Rattle.scope_parts.specs.Order.{InTurn, Rising, joined_places}
 use Rattle.scope_parts.specs.TermPlaces.{name_places, premiss_places}
 use Rattle.scope_parts.specs.PartPlaces.{variable_places, VariablesFollow, exit_places, value_places, let_places, LetFollows, offers_places, OffersFollowOn, choice_places, ChoicesFollow, sign_places, SignFollows}
 
@@ -14,8 +14,8 @@ test_places (Some premiss) = premiss_places premiss
 -- the places at which something may be wrong
 abbrev pub behaviour_places : WrittenBehaviour → List Place
 behaviour_places (stop place) = []
-behaviour_places (exit place values) = joined (exit_places values)
-behaviour_places (call place name gates values) = place ∷ (name_places gates ++ joined (value_places values))
+behaviour_places (exit place values) = joined_places (exit_places values)
+behaviour_places (call place name gates values) = place ∷ (name_places gates ++ joined_places (value_places values))
 behaviour_places (action place gate offers test next) =
     place ∷ (offers_places offers ++ (test_places test ++ behaviour_places next))
 behaviour_places (inner_action place next) = behaviour_places next
@@ -32,7 +32,7 @@ abbrev pub Follows : WrittenBehaviour → Type 0
 Follows (stop place) = Unit {0}
 Follows (exit place values) = InTurn (exit_places values)
 Follows (call place name gates values) =
-    InTurn ((place ∷ []) ∷ name_places gates ∷ joined (value_places values) ∷ []) × Rising (name_places gates)
+    InTurn ((place ∷ []) ∷ name_places gates ∷ joined_places (value_places values) ∷ []) × Rising (name_places gates)
     × InTurn (value_places values)
 Follows (action place gate offers test next) =
     InTurn ((place ∷ []) ∷ offers_places offers ∷ test_places test ∷ behaviour_places next ∷ [])

@@ -9,7 +9,7 @@ use Rattle.behaviour_semantics.specs.Behaviour.{Behaviour, stop, exit_with, acti
 use Rattle.scope_parts.specs.ScopeFault.{gate_count, value_count}
 use Rattle.scope_parts.specs.Resolution.{Resolution, resolved, faulty, and_then, Is, ThenResolves, Made}
 use Rattle.scope_parts.specs.Scope.{Scope, Callable, gate_at, gates_at, bind_all, callable_named, found_process}
-use Rattle.scope_parts.specs.Numbering.{Numbers, spelled, each_once, asked_for, choice_names, past_gates, past_variables, past}
+use Rattle.scope_parts.specs.Numbering.{Numbers, spelled_names, each_once, asked_for, choice_names, past_gates, past_variables, past}
 use Rattle.scope_parts.specs.Sorts.{variables_at}
 use Rattle.scope_parts.specs.Terms.{TestIs, TestOptionIs, ExitValuesAre, ValuesAre, LetIs, OffersAre}
 use Rattle.scope_parts.specs.Choices.{choices_at, par_choices_at, under_gates, under_par, under_values}
@@ -88,9 +88,9 @@ BehaviourIs signature scope numbers (written.guard place test next) =
     ThenResolves (TestIs signature scope.variables test)
     (λ premiss. Made (λ behind. guard premiss behind) (BehaviourIs signature scope numbers next))
 BehaviourIs signature scope numbers (written.hide place gates inside) =
-    Made (λ within. hide (numbers_from numbers.gate (each_once (spelled gates))) within)
-    (BehaviourIs signature (with_gates (each_once (spelled gates)) numbers.gate scope)
-    (past_gates (length (each_once (spelled gates))) numbers) inside)
+    Made (λ within. hide (numbers_from numbers.gate (each_once (spelled_names gates))) within)
+    (BehaviourIs signature (with_gates (each_once (spelled_names gates)) numbers.gate scope)
+    (past_gates (length (each_once (spelled_names gates))) numbers) inside)
 BehaviourIs signature scope numbers (written.let_be place values inside) =
     ThenResolves (LetIs signature scope.variables numbers.variable values)
     (λ bindings. Made (λ within. let_be bindings within)

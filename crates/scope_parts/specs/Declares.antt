@@ -5,7 +5,7 @@ use Rattle.lotos_base.specs.declared.names.Name.{Name}
 use Rattle.lotos_base.specs.declared.written_terms.Written.{Written}
 use Rattle.lotos_base.specs.WrittenTerm.{PlacedName}
 use Rattle.lotos_base.specs.WrittenView.{placed_name_of}
-use Rattle.syntax_trees.specs.TreeViews.{variable_of, gate_choice_of}
+use Rattle.syntax_trees.specs.TreeViews.{written_variable_of, gate_choice_of}
 use Rattle.syntax_trees.specs.declared.named.VarText.{VarText}
 use Rattle.syntax_trees.specs.declared.behaviours.GateText.{GateText}
 use Rattle.syntax_trees.specs.declared.behaviours.OfferText.{OfferText}
@@ -18,7 +18,7 @@ abbrev pub declared_name : Place × Name → Option PlacedName
 declared_name name = Some (placed_name_of name)
 
 abbrev pub declared_variable : VarText → Option PlacedName
-declared_variable text = Some (placed_variable (variable_of text))
+declared_variable text = Some (placed_variable (written_variable_of text))
 
 abbrev pub declared_gate : GateText → Option PlacedName
 declared_gate text = Some (placed_choice (gate_choice_of text))

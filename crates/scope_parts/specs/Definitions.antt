@@ -11,7 +11,7 @@ use Rattle.behaviour_semantics.specs.Behaviour.{Behaviour, Process, Specificatio
 use Rattle.scope_parts.specs.ScopeFault.{double_name}
 use Rattle.scope_parts.specs.Resolution.{Resolution, resolved, faulty, and_then, beside, Is, ThenResolves, Made}
 use Rattle.scope_parts.specs.Scope.{Scope, Callable, Binding, bind, bind_all, is_bound, first_double}
-use Rattle.scope_parts.specs.Numbering.{Numbers, spelled, own_gates, inners_gates, past_heading, past_own, past_inner, process_count}
+use Rattle.scope_parts.specs.Numbering.{Numbers, spelled_names, own_gates, inners_gates, past_heading, past_own, past_inner, process_count}
 use Rattle.scope_parts.specs.Sorts.{variables_at, functionality_at, sorts_if}
 use Rattle.scope_parts.specs.Behaviours.{BehaviourIs, numbers_from}
 
@@ -35,7 +35,7 @@ heading_at signature numbers heading =
 -- what is visible in a body: its own gates and parameters, and processes
 abbrev pub own_scope : List Callable → Numbers → WrittenHeading → Heading → Scope
 own_scope processes numbers heading resolved_heading = record {
-  gates = bind_all (spelled heading.gates) numbers.gate [];
+  gates = bind_all (spelled_names heading.gates) numbers.gate [];
   variables = resolved_heading.parameters;
   processes = processes;
 }

@@ -72,7 +72,7 @@ abbrev pub ErrBeside : Place × Name → Told → ScopeFault → Type 0
 ErrBeside double nothing_told fault = fault ≡ NoMemory
 ErrBeside double never_told fault = Unit {0}
 ErrBeside double (told other) fault =
-    FaultIs fault (λ f. f ≡ plain.first_of_two (plain.double_name (text_place_of double.0) (spelling double.1)) other)
+    FaultIs fault (λ f. f ≡ plain.first_fault_of_two (plain.double_name (text_place_of double.0) (spelling double.1)) other)
 
 abbrev pub IsBeside : {T : Type 0} → Option (Place × Name) → Result T ScopeFault → Result T ScopeFault → Type 0
 IsBeside None others result = result ≡ others

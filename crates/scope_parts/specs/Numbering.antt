@@ -14,8 +14,8 @@ pub record Numbers : Type 0 where
   pub process : ℕ
 
 -- names as they are spelled
-abbrev pub spelled : List PlacedName → List (List ℕ)
-spelled names = map (λ (name : PlacedName). name.name) names
+abbrev pub spelled_names : List PlacedName → List (List ℕ)
+spelled_names names = map (λ (name : PlacedName). name.name) names
 
 -- the names, each once, as it is spelled first
 abbrev pub each_once_from : List Binding → List (List ℕ) → List (List ℕ)
@@ -53,7 +53,7 @@ gates_in (call place name gates values) = []
 gates_in (action place gate offers test next) = gates_in next
 gates_in (inner_action place next) = gates_in next
 gates_in (guard place test next) = gates_in next
-gates_in (hide place gates inside) = each_once (spelled gates) ++ gates_in inside
+gates_in (hide place gates inside) = each_once (spelled_names gates) ++ gates_in inside
 gates_in (let_be place values inside) = gates_in inside
 gates_in (choose_value place variables inside) = gates_in inside
 gates_in (choose_gate place gates inside) = choice_names gates ++ gates_in inside
@@ -87,7 +87,7 @@ past behaviour numbers = past_variables (variable_count behaviour) (past_gates (
 
 -- the gates that a definition declares beside those of its own `where`
 abbrev pub own_gates : WrittenHeading → WrittenBehaviour → List (List ℕ)
-own_gates heading body = spelled heading.gates ++ gates_in body
+own_gates heading body = spelled_names heading.gates ++ gates_in body
 
 -- the numbers behind a heading, and behind a definition beside its own `where`
 abbrev pub past_heading : WrittenHeading → Numbers → Numbers

@@ -5,13 +5,13 @@ use Rattle.behaviour_semantics.specs.WellFormed.{Every}
 use Rattle.scope_parts.specs.ScopeFault.{ScopeFault, unknown_gate, unknown_process, unknown_sort, double_name, gate_count, value_count, no_bool, refused_term, fault_place, stands_before}
 
 -- the place is one of the list
-abbrev pub IsOneOf : Place → List Place → Type 0
-IsOneOf place [] = ⊥
-IsOneOf place (p ∷ ps) = (place ≡ p) ⊎ IsOneOf place ps
+abbrev pub IsOneOfPlaces : Place → List Place → Type 0
+IsOneOfPlaces place [] = ⊥
+IsOneOfPlaces place (p ∷ ps) = (place ≡ p) ⊎ IsOneOfPlaces place ps
 
 -- every place of the first list stands before every place of the second
 abbrev pub StandWhollyBefore : List Place → List Place → Type 0
-StandWhollyBefore ps qs = (p q : Place) → IsOneOf p ps → IsOneOf q qs → stands_before p q ≡ true
+StandWhollyBefore ps qs = (p q : Place) → IsOneOfPlaces p ps → IsOneOfPlaces q qs → stands_before p q ≡ true
 
 -- each list stands wholly before those behind it
 abbrev pub InTurn : List (List Place) → Type 0
@@ -24,9 +24,9 @@ Rising [] = Unit {0}
 Rising (p ∷ ps) = StandWhollyBefore (p ∷ []) ps × Rising ps
 
 -- the places of the lists
-abbrev pub joined : List (List Place) → List Place
-joined [] = []
-joined (ps ∷ rest) = ps ++ joined rest
+abbrev pub joined_places : List (List Place) → List Place
+joined_places [] = []
+joined_places (ps ∷ rest) = ps ++ joined_places rest
 
 -- which of the faults at one place counts: a name that is declared twice; a gate, a process or a sort that is not there; the
 -- number of gates; the number of values; a premiss without `Bool`; a refused term

@@ -10,7 +10,7 @@ use Rattle.scope_parts.specs.Numbering.{asked_for}
 use Rattle.scope_parts.specs.Sorts.{placed_variables}
 use Rattle.scope_parts.specs.Terms.{let_names}
 use Rattle.scope_parts.specs.Choices.{placed_choices}
-use Rattle.scope_parts.specs.Order.{StandWhollyBefore, InTurn, Rising, joined}
+use Rattle.scope_parts.specs.Order.{StandWhollyBefore, InTurn, Rising, joined_places}
 use Rattle.scope_parts.specs.TermPlaces.{name_places, term_places}
 
 -- ---- Variables
@@ -52,7 +52,7 @@ abbrev pub bindings_places : List (WrittenVariable × WrittenTerm) → List (Lis
 bindings_places bindings = map binding_places bindings
 
 abbrev pub let_places : List (WrittenVariable × WrittenTerm) → List Place
-let_places bindings = name_places (placed_variables (let_names bindings)) ++ joined (bindings_places bindings)
+let_places bindings = name_places (placed_variables (let_names bindings)) ++ joined_places (bindings_places bindings)
 
 abbrev pub LetFollows : List (WrittenVariable × WrittenTerm) → Type 0
 LetFollows bindings = Rising (name_places (placed_variables (let_names bindings))) × InTurn (bindings_places bindings)
@@ -67,7 +67,7 @@ abbrev pub offered_places : List WrittenOffer → List (List Place)
 offered_places offers = map offer_places offers
 
 abbrev pub offers_places : List WrittenOffer → List Place
-offers_places offers = name_places (placed_variables (asked_for offers)) ++ joined (offered_places offers)
+offers_places offers = name_places (placed_variables (asked_for offers)) ++ joined_places (offered_places offers)
 
 -- an offer stands before the other, or both ask for variables whose sort is the same
 abbrev pub OfferFollows : WrittenOffer → WrittenOffer → Type 0
@@ -86,7 +86,7 @@ OffersFollowOn offers = Rising (name_places (placed_variables (asked_for offers)
 -- ---- Gates that a `choice` or a `par` declares, and its sign
 
 abbrev pub among_places : List WrittenGateChoice → List Place
-among_places gates = joined (map (λ (gate : WrittenGateChoice). name_places gate.among) gates)
+among_places gates = joined_places (map (λ (gate : WrittenGateChoice). name_places gate.among) gates)
 
 abbrev pub choice_places : List WrittenGateChoice → List Place
 choice_places gates = name_places (placed_choices gates) ++ among_places gates

@@ -2,7 +2,7 @@
 -- is computed, and what is related where terms are read.
 use Rattle.std.specs.Prelude.{◌≡◌, ◌⊎◌, List, [], ◌∷◌, Option, None, Some}
 use Rattle.lotos_base.specs.WrittenTerm.{PlacedName}
-use Rattle.scope_parts.specs.ScopeFault.{ScopeFault, double_name, first_of_two}
+use Rattle.scope_parts.specs.ScopeFault.{ScopeFault, double_name, first_fault_of_two}
 
 pub data Resolution (A : Type 0) : Type 0 where
   resolved : A → Resolution A
@@ -23,7 +23,7 @@ put_in_front x (faulty fault) = faulty fault
 abbrev pub beside : {A : Type 0} → Option PlacedName → Resolution A → Resolution A
 beside None others = others
 beside (Some double) (resolved x) = faulty (double_name double.place double.name)
-beside (Some double) (faulty fault) = faulty (first_of_two (double_name double.place double.name) fault)
+beside (Some double) (faulty fault) = faulty (first_fault_of_two (double_name double.place double.name) fault)
 
 -- the relations below are between a part of a text and its resolution
 

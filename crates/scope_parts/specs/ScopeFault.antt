@@ -38,5 +38,5 @@ stands_before one other =
     && (nat_lt one.line other.line || (nat_eq one.line other.line && nat_lt one.column other.column)))
 
 -- the fault that stands first in the text, the first one of the two where they stand at one place
-abbrev pub first_of_two : ScopeFault → ScopeFault → ScopeFault
-first_of_two one other = if stands_before (fault_place other) (fault_place one) then other else one
+abbrev pub first_fault_of_two : ScopeFault → ScopeFault → ScopeFault
+first_fault_of_two one other = if stands_before (fault_place other) (fault_place one) then other else one

@@ -8,7 +8,7 @@ use Rattle.syntax_trees.specs.WrittenDefinition.{WrittenHeading, WrittenInner, W
 use Rattle.scope_parts.specs.ScopeFault.{ScopeFault, double_name}
 use Rattle.scope_parts.specs.Resolution.{Is}
 use Rattle.scope_parts.specs.Scope.{Scope, Callable, Binding, bind_all, is_bound}
-use Rattle.scope_parts.specs.Numbering.{Numbers, spelled, past_heading, past_own, past_inner}
+use Rattle.scope_parts.specs.Numbering.{Numbers, spelled_names, past_heading, past_own, past_inner}
 use Rattle.scope_parts.specs.Sorts.{variables_at}
 use Rattle.scope_parts.specs.Definitions.{callables, with_name, past_name, first_numbers}
 use Rattle.scope_parts.specs.PartFaults.{Seeing, Doubled, VariablesHave, SortsHave}
@@ -27,7 +27,7 @@ HeadingHas signature numbers heading fault =
 -- what is visible in a body: its own gates and parameters, and processes
 abbrev pub body_scope : List Callable → Numbers → WrittenHeading → List Variable → Scope
 body_scope processes numbers heading parameters = record {
-  gates = bind_all (spelled heading.gates) numbers.gate [];
+  gates = bind_all (spelled_names heading.gates) numbers.gate [];
   variables = parameters;
   processes = processes;
 }

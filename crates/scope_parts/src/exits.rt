@@ -9,7 +9,7 @@ ghost use Rattle.scope_parts.specs.FaultView.{Answers};
 ghost use Rattle.scope_parts.specs.Terms.{ExitValueIs, ExitValuesAre};
 ghost use Rattle.scope_parts.specs.VisibleView.{visible_in};
 ghost use Rattle.std.specs.Prelude.{IfOk, map};
-ghost use Rattle.syntax_trees.specs.TreeViews.{exit_value_of as written_value};
+ghost use Rattle.syntax_trees.specs.TreeViews.{written_exit_value_of as written_value};
 
 use crate::scope_faults::ScopeFault;
 use crate::sorts::sort_at;

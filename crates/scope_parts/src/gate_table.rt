@@ -5,7 +5,7 @@ ghost use Rattle.scope_parts.specs.Choices.{choices_at, choices_follow, par_choi
 ghost use Rattle.scope_parts.specs.Behaviours.{numbers_from};
 ghost use Rattle.scope_parts.specs.FaultView.{Answers};
 ghost use Rattle.scope_parts.specs.GatesDeclared.{DeclaresOnce, declared, declared_one};
-ghost use Rattle.scope_parts.specs.Numbering.{choice_names, each_once, spelled};
+ghost use Rattle.scope_parts.specs.Numbering.{choice_names, each_once, spelled_names};
 ghost use Rattle.scope_parts.specs.Resolution.{Is};
 ghost use Rattle.std.specs.Prelude.{◌≡◌, [], IfOk, OnOk, length, map};
 ghost use Rattle.syntax_trees.specs.TreeViews.{gate_choices_of, placed_names_of, sign_of};
@@ -63,9 +63,9 @@ impl GateTable {
     pub fn hide_all(&mut self, alloc: Global, texts: &Vec<Named>) -> Result<Vec<u32>, NoMemory>
         ensures numbers { IfOk result (λ made. made.items
             ≡ numbers_from (length (gates_in self.old).names)
-            (each_once (spelled (placed_names_of texts.now.items)))) }
+            (each_once (spelled_names (placed_names_of texts.now.items)))) }
         ensures declared { OnOk result (gates_in self.new
-            ≡ declared (each_once (spelled (placed_names_of texts.now.items)))
+            ≡ declared (each_once (spelled_names (placed_names_of texts.now.items)))
             (gates_in self.old)) }
     {
         let mut before = Bindings::new(alloc);

@@ -11,7 +11,7 @@ ghost use Rattle.scope_parts.specs.FaultView.{Answers};
 ghost use Rattle.scope_parts.specs.Terms.{BindingIs, BindingsAre, LetIs};
 ghost use Rattle.scope_parts.specs.VisibleView.{visible_in};
 ghost use Rattle.std.specs.Prelude.{IfOk, map};
-ghost use Rattle.syntax_trees.specs.TreeViews.{lets_of, variable_of};
+ghost use Rattle.syntax_trees.specs.TreeViews.{lets_of, written_variable_of};
 
 use crate::doubles::first_double;
 use crate::fault_order::beside;
@@ -84,7 +84,7 @@ impl Terms<'_> {
         requires { IsScopeOver (signature_read self.now.reader) (visible_in visible.now) }
         ensures read { Answers let_of result (BindingIs (signature_read self.now.reader)
             (visible_in visible.now) number
-            (variable_of text.now.0, written_term_of text.now.1)) }
+            (written_variable_of text.now.0, written_term_of text.now.1)) }
         ensures profile { IfOk result (λ binding. IsOf (signature_read self.now.reader)
             (let_profile binding)) }
     {

@@ -9,7 +9,7 @@ ghost use Rattle.scope_parts.specs.FaultView.{Answers};
 ghost use Rattle.scope_parts.specs.Terms.{OfferIs, OffersAre, OffersFollow, past_offer};
 ghost use Rattle.scope_parts.specs.VisibleView.{visible_in};
 ghost use Rattle.std.specs.Prelude.{◌≡◌, IfOk, map};
-ghost use Rattle.syntax_trees.specs.TreeViews.{offer_of as written_offer};
+ghost use Rattle.syntax_trees.specs.TreeViews.{written_offer_of as written_offer};
 
 use crate::doubles::first_double;
 use crate::fault_order::beside;

@@ -24,10 +24,10 @@ ghost use Rattle.std.specs.Prelude.{
   option_map,
 };
 ghost use Rattle.syntax_trees.specs.TreeViews.{
-  functionality_of,
+  written_functionality_of,
   placed_names_of,
-  variable_of,
-  variables_of,
+  written_variable_of,
+  written_variables_of,
 };
 
 use crate::doubles::first_double;
@@ -87,7 +87,7 @@ pub fn variable_at(
     text: &VarText,
 ) -> Result<Variable, ScopeFault>
     ensures { Answers resolved_variable result (Is (variable_at_place
-        (signature_read reader.now) number (variable_of text.now))) }
+        (signature_read reader.now) number (written_variable_of text.now))) }
 {
     let sort = sort_at(alloc, reader, text.sort_place, &text.sort)?;
     let name = text.name.copy(alloc)?;
@@ -103,7 +103,7 @@ pub fn variables_at(
 ) -> Result<Vec<Variable>, ScopeFault>
     ensures { Answers (λ made. map resolved_variable made.items) result
         (Is (variables_at_places (signature_read reader.now) first
-        (variables_of texts.now.items))) }
+        (written_variables_of texts.now.items))) }
 {
     let double = first_double(alloc, texts)?;
     beside(double, sorted_variables(alloc, reader, first, texts))
@@ -118,7 +118,7 @@ fn sorted_variables(
 ) -> Result<Vec<Variable>, ScopeFault>
     ensures { Answers (λ made. map resolved_variable made.items) result
         (Is (sorted_variables_of (signature_read reader.now) first
-        (variables_of texts.now.items))) }
+        (written_variables_of texts.now.items))) }
 {
     let mut made = Vec::with_capacity(alloc, texts.len())?;
     let mut number = first;

@@ -9,13 +9,13 @@ use Rattle.syntax_trees.specs.declared.behaviours.BehText.{BehText}
 use Rattle.syntax_trees.specs.declared.definitions.InnerText.{InnerText}
 use Rattle.syntax_trees.specs.declared.definitions.InnerText.TheFolds.{fold-roll-ProcessText}
 use Rattle.syntax_trees.specs.declared.definitions.ProcessText.{roll-ProcessText}
-use Rattle.syntax_trees.specs.TreeViews.{behaviour_of, heading_of, inner_of, process_of, inner_level, process_level}
+use Rattle.syntax_trees.specs.TreeViews.{written_behaviour_of, heading_of, inner_of, written_process_of, inner_level, process_level}
 use Rattle.syntax_trees.specs.WrittenDefinition.{WrittenInner, process, inners_of}
 
 -- a process that is put together
 pub made_process : (place : Place) (name : Name) (gates : Vec (Place × Name) Global) (params : Vec VarText Global)
     (func : Option (Vec (Place × Name) Global)) (body : BehText) (inner : Vec InnerText Global) →
-    process_of (roll-ProcessText (record {
+    written_process_of (roll-ProcessText (record {
       place = place;
       name = name;
       gates = gates;
@@ -24,7 +24,7 @@ pub made_process : (place : Place) (name : Name) (gates : Vec (Place × Name) Gl
       body = body;
       inner = inner;
     }))
-    ≡ process (heading_of place name gates.items params.items func) (behaviour_of body) (inners_of (map inner_of inner.items))
+    ≡ process (heading_of place name gates.items params.items func) (written_behaviour_of body) (inners_of (map inner_of inner.items))
 made_process place name gates params func body inner =
     fold-roll-ProcessText WrittenInner WrittenInner inner_level process_level
     (record { place = place; name = name; gates = gates; params = params; func = func; body = body; inner = inner })

@@ -1,7 +1,7 @@
 //! What the rows of processes and headings build.
 
 ghost use Rattle.std.specs.Prelude.{◌≡◌, IfOk, None, Some, map, option_map, reverse};
-ghost use Rattle.syntax_trees.specs.TreeViews.{behaviour_of, inner_of, item_of, process_of};
+ghost use Rattle.syntax_trees.specs.TreeViews.{written_behaviour_of, inner_of, item_of, written_process_of};
 ghost use Rattle.syntax_trees.specs.WrittenDefinition as plain;
 ghost use Rattle.ll_engine.specs.Run.{from_last};
 ghost use Rattle.tree_building.specs.DefinitionsMeaning.{exit_of_sorts, heading_of_parts, item_before_inner, process_before_inner, process_of_parts};
@@ -55,7 +55,7 @@ fn declared_item(item: ItemText) -> InnerText
 
 /// A process as what a `where` declares.
 fn declared_process(process: ProcessText) -> InnerText
-    ensures { inner_of result ≡ process_of process }
+    ensures { inner_of result ≡ written_process_of process }
 {
     InnerText::Process(process)
 }
@@ -95,8 +95,8 @@ fn joined_process(parts: &mut Vec<Value>) -> Built
 /// The process of a heading, a behaviour and what its `where` declares, which is held from the last
 /// to the first.
 fn process_of_heading(heading: Heading, body: BehText, inner: Vec<InnerText>) -> ProcessText
-    ensures { process_of result
-        ≡ plain.process (plain_heading_of heading) (behaviour_of body)
+    ensures { written_process_of result
+        ≡ plain.process (plain_heading_of heading) (written_behaviour_of body)
         (plain.inners_of (from_last inner_of inner.items)) }
 {
     ProcessText {

@@ -4,7 +4,7 @@ ghost use Rattle.std.specs.Prelude.{◌≡◌, IfOk, None, Some, map, option_map
 ghost use Rattle.lotos_base.specs.Name.{spelling};
 ghost use Rattle.lotos_base.specs.WrittenView.{written_profile_of};
 ghost use Rattle.lotos_rows.specs.Starts.{profile_by_name};
-ghost use Rattle.syntax_trees.specs.TreeViews.{behaviour_of, inner_of, item_of, specification_of};
+ghost use Rattle.syntax_trees.specs.TreeViews.{written_behaviour_of, inner_of, item_of, written_specification_of};
 ghost use Rattle.syntax_trees.specs.WrittenDefinition.{WrittenSpecification};
 ghost use Rattle.ll_engine.specs.Run.{from_last};
 ghost use Rattle.tree_building.specs.DefinitionsViews.{plain_heading_of};
@@ -32,9 +32,9 @@ use type_building::types::joined_items;
 /// declarations are held from the last to the first.
 #[tactic(auto, using(tree_building::proofs::FromLast::map_reverse))]
 fn whole(heading: Heading, items: Vec<ItemText>, body: BehText, inner: Vec<InnerText>) -> SpecText
-    ensures { specification_of result
+    ensures { written_specification_of result
         ≡ whole_specification (plain_heading_of heading) (from_last item_of items.items)
-        (behaviour_of body) (from_last inner_of inner.items) }
+        (written_behaviour_of body) (from_last inner_of inner.items) }
 {
     SpecText {
         place: heading.place,

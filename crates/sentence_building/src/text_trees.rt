@@ -8,7 +8,7 @@ ghost use Rattle.lotos_rows.specs.Rows.{grammar_from};
 ghost use Rattle.lotos_rows.specs.declared.starts.TheConstants as starts;
 ghost use Rattle.lotos_rows.specs.Starts.{AreItems, AreOptionalTerms, AreOrderItems, IsWrittenSpecification};
 ghost use Rattle.sentence_trees.specs.Sentences.{Derived, kind_of};
-ghost use Rattle.syntax_trees.specs.TreeViews.{item_of, specification_of};
+ghost use Rattle.syntax_trees.specs.TreeViews.{item_of, written_specification_of};
 ghost use Rattle.tree_building.specs.Meaning.{Meaning};
 ghost use Rattle.tree_building.specs.MeaningView.{meaning};
 ghost use Rattle.sentence_trees.specs.LotosGrammar.{IsLotosGrammar};
@@ -49,7 +49,7 @@ pub fn specification_tree(
 ) -> Result<SpecText, AllocError>
     requires { IsLeftmostDerivation (grammar_from starts.SPEC) rows.items (map kind_of tokens.now) }
     ensures { IfOk result (λ spec. IsWrittenSpecification text.now tokens.now
-        (specification_of spec)) }
+        (written_specification_of spec)) }
 {
     let grammar = specification_grammar();
     let Some(value) = derived_value(alloc, text, &grammar, tokens, rows)? else {

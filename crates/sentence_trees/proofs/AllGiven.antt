@@ -3,6 +3,7 @@
 use Rattle.std.proofs.Common.{◌≡◌, ◌∙◌, ℕ, Bool, true, List, [], ◌∷◌, ◌++◌, map, refl, ap, sym, subst}
 use Rattle.std.specs.Prelude.{Some, option_and_then, slice_get}
 use Rattle.std.specs.List.{list_all}
+use Rattle.lotos_base.proofs.Each.{Each, each_member, each_join}
 use Rattle.ll_engine.specs.declared.symbol.Symbol.TheVariants.{Part}
 use Rattle.ll_engine.specs.Derivation.{Production, Forest, DerivesSymbols, leaves}
 use Rattle.ll_engine.specs.Fold.{front_token}
@@ -26,7 +27,6 @@ use Rattle.tree_building.specs.RowMeaning.{row_means, numbered_row_means}
 use Rattle.sentence_trees.specs.PartSentences.{As, as_one}
 use Rattle.sentence_trees.specs.Laws.{RowsHaveTheSentences}
 use Rattle.sentence_trees.specs.Sentences.{kind_of, PartMeans, GivesMeaning, Derived}
-use Rattle.sentence_trees.proofs.Each.{Each, each_at, each_joined}
 use Rattle.sentence_trees.proofs.AllRows.{named_row, parts_kept, derived_means}
 use Rattle.sentence_trees.proofs.DefinitionsCases.{all_sentences_derived}
 use Rattle.sentence_trees.proofs.Total.{stays_said, has_meaning}
@@ -59,14 +59,14 @@ module _ (text : List ℕ) where
       let rest3 = equations_rows ++ rest4 in
       let rest2 = types_rows ++ rest3 in
       let rest1 = terms_rows ++ rest2 in
-      each_joined P names_rows rest1 (names_give text)
-      (each_joined P terms_rows rest2 (terms_give text)
-      (each_joined P types_rows rest3 (types_give text)
-      (each_joined P equations_rows rest4 (equations_give text)
-      (each_joined P renamings_rows rest5 (renamings_give text)
-      (each_joined P behaviours_rows rest6 (behaviours_give text)
-      (each_joined P definitions_rows rest7 (definitions_give text)
-      (each_joined P specification_rows starts_rows (specification_give text) (starts_give text))))))))
+      each_join P names_rows rest1 (names_give text)
+      (each_join P terms_rows rest2 (terms_give text)
+      (each_join P types_rows rest3 (types_give text)
+      (each_join P equations_rows rest4 (equations_give text)
+      (each_join P renamings_rows rest5 (renamings_give text)
+      (each_join P behaviours_rows rest6 (behaviours_give text)
+      (each_join P definitions_rows rest7 (definitions_give text)
+      (each_join P specification_rows starts_rows (specification_give text) (starts_give text))))))))
 
   given_at : (number : ℕ) (row : Production) → slice_get rows number ≡ Some row → everything row.left ≡ true →
       (tokens : List Token) (values : List Meaning) →
@@ -74,7 +74,7 @@ module _ (text : List ℕ) where
       (value : Meaning) × (numbered_row_means text number (front_token is_kept_kind row.right tokens) values ≡ Some value)
   given_at number row is said tokens values stands =
       let it = named_row number row is in
-      let gives = each_at (GivesMeaning text) grammar_rows number it.row all_give it.is_row in
+      let gives = each_member (GivesMeaning text) grammar_rows number it.row all_give it.is_row in
       let found = gives tokens values
       (subst (λ (p : Production). StandForTokens kind_of (PartMeans text) p.right tokens values) (sym it.production_is) stands) in (
         found.0,

@@ -4,7 +4,7 @@ use Rattle.std.specs.Prelude.{Some, option_and_then, slice_get}
 use Rattle.lotos_base.proofs.Members.{from_map, at_map}
 use Rattle.ll_engine.specs.Derivation.{Production}
 use Rattle.ll_engine.specs.Fold.{front_token}
-use Rattle.ll_engine.specs.Values.{StandForTokens, IsKept}
+use Rattle.ll_engine.specs.Values.{StandForTokens, KeepsValues}
 use Rattle.ll_engine.proofs.Values.{least}
 use Rattle.lotos_lexer.specs.declared.tokens.Token.{Token}
 use Rattle.lotos_rows.specs.Kept.{is_kept_kind}
@@ -21,6 +21,7 @@ use Rattle.lotos_rows.specs.DefinitionsRows.{definitions_rows}
 use Rattle.lotos_rows.specs.SpecificationRows.{specification_rows}
 use Rattle.lotos_rows.specs.StartsRows.{starts_rows}
 use Rattle.lotos_base.specs.WrittenTerm.{WrittenTerm, ListedOperation}
+use Rattle.lotos_base.proofs.Each.{Each, each_member, each_join}
 use Rattle.lotos_rows.specs.declared.starts.TheConstants as starts
 use Rattle.syntax_trees.specs.WrittenItem.{WrittenItem}
 use Rattle.syntax_trees.specs.WrittenDefinition.{WrittenSpecification}
@@ -30,7 +31,6 @@ use Rattle.tree_building.specs.RowMeaning.{row_means, numbered_row_means}
 use Rattle.sentence_trees.specs.PartSentences.{As, as_one}
 use Rattle.sentence_trees.specs.Laws.{DerivedTextsAreSentences}
 use Rattle.sentence_trees.specs.Sentences.{kind_of, PartMeans, KeepsParts, Derived}
-use Rattle.sentence_trees.proofs.Each.{Each, each_at, each_joined}
 use Rattle.sentence_trees.proofs.NamesRows.{names_keep}
 use Rattle.sentence_trees.proofs.TermsRows.{terms_keep}
 use Rattle.sentence_trees.proofs.TypesRows.{types_keep}
@@ -71,19 +71,19 @@ module _ (text : List ℕ) where
       let rest3 = equations_rows ++ rest4 in
       let rest2 = types_rows ++ rest3 in
       let rest1 = terms_rows ++ rest2 in
-      each_joined P names_rows rest1 (names_keep text)
-      (each_joined P terms_rows rest2 (terms_keep text)
-      (each_joined P types_rows rest3 (types_keep text)
-      (each_joined P equations_rows rest4 (equations_keep text)
-      (each_joined P renamings_rows rest5 (renamings_keep text)
-      (each_joined P behaviours_rows rest6 (behaviours_keep text)
-      (each_joined P definitions_rows rest7 (definitions_keep text)
-      (each_joined P specification_rows starts_rows (specification_keep text) (starts_keep text))))))))
+      each_join P names_rows rest1 (names_keep text)
+      (each_join P terms_rows rest2 (terms_keep text)
+      (each_join P types_rows rest3 (types_keep text)
+      (each_join P equations_rows rest4 (equations_keep text)
+      (each_join P renamings_rows rest5 (renamings_keep text)
+      (each_join P behaviours_rows rest6 (behaviours_keep text)
+      (each_join P definitions_rows rest7 (definitions_keep text)
+      (each_join P specification_rows starts_rows (specification_keep text) (starts_keep text))))))))
 
-  pub parts_kept : IsKept (numbered_row_means text) is_kept_kind kind_of rows (PartMeans text)
+  pub parts_kept : KeepsValues (numbered_row_means text) is_kept_kind kind_of rows (PartMeans text)
   parts_kept number production tokens values value is stands given =
       let it = named_row number production is in
-      let keeps = each_at (KeepsParts text) grammar_rows number it.row all_keep it.is_row in
+      let keeps = each_member (KeepsParts text) grammar_rows number it.row all_keep it.is_row in
       let stands_row = subst (λ (p : Production). StandForTokens kind_of (PartMeans text) p.right tokens values) (sym it.production_is)
       stands in
       let given_row : row_means text it.row.name (front_token is_kept_kind it.row.production.right tokens) values ≡ Some value =

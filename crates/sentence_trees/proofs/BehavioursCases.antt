@@ -12,18 +12,18 @@ use Rattle.syntax_trees.specs.WrittenVariable.{WrittenVariable}
 use Rattle.syntax_trees.specs.WrittenEquation.{WrittenPremiss}
 use Rattle.syntax_trees.specs.WrittenBehaviour.{WrittenGateChoice, WrittenExitValue, WrittenOffer, WrittenBehaviour, choose_value, choose_gate}
 use Rattle.syntax_trees.specs.Strength.{PlacedSign, strength_of}
-use Rattle.syntax_trees.specs.Strength.{joined as joined_by}
+use Rattle.syntax_trees.specs.Strength.{joined_by_sign as joined_by}
 use Rattle.syntax_trees.specs.Grouping.{grouped}
 use Rattle.syntax_trees.proofs.Groupings.{is_grouped}
-use Rattle.lotos_rows.specs.Words.{IsOf, Optional, left_out, there, Many, no_more, and_then, Separated, last, before_more, Between, between}
+use Rattle.lotos_rows.specs.Words.{IsOfKind, Optional, left_out, there, Many, no_more, and_then, Separated, last, before_more, Between, between}
 use Rattle.lotos_rows.specs.Names.{place_of, named, AreNames, AreWrittenGates, AreOptionalGates, AreVariables, variables_of_sort}
 use Rattle.lotos_rows.specs.Names as names_family
 use Rattle.lotos_rows.specs.Terms.{AreArguments}
 use Rattle.lotos_rows.specs.Terms as terms_family
-use Rattle.lotos_rows.specs.Behaviours.{gate_choices_among, IsLetDeclaration, AreGateChoices, AreGateChoicesAmong, IsWrittenOffer, IsSelection, IsWrittenExitValue, IsParallelSign, IsSign, AreOperands, IsAtom, IsBehaviour}
+use Rattle.lotos_rows.specs.Behaviours.{gate_choices_among, IsLetDeclaration, AreGateChoices, AreGateChoicesAmong, IsWrittenOffer, IsSelection, IsWrittenExitValue, IsParallelSign, IsSign, AreOperands, IsAtom, IsBehaviourText}
 use Rattle.lotos_rows.specs.Behaviours as family
 use Rattle.tree_building.specs.Meaning.{Meaning, PlainFlat, some_names, some_variables, some_terms, some_operands, an_action, some_offers, some_exit_values, some_lets, some_gate_choices, a_sign}
-use Rattle.tree_building.specs.BehavioursMeaning.{alone, before_tail}
+use Rattle.tree_building.specs.BehavioursMeaning.{operand_alone, before_tail}
 use Rattle.sentence_trees.specs.Sentences.{Derived}
 use Rattle.sentence_trees.proofs.NamesDerived.{by_name, by_gates, by_no_optional_gates, by_optional_gates, by_no_more_variables, by_more_variables}
 use Rattle.sentence_trees.proofs.NamesCases.{names_derived, optional_names_derived, variables_derived}
@@ -128,7 +128,8 @@ module _ (text : List ℕ) where
   -- what is behind the first offer of an action
   after_offer_derived : {offer_tokens test_tokens tokens : List Token} {semicolon : Token} {offers : List (List WrittenOffer)}
       {test : Option WrittenPremiss} {flat : PlainFlat} →
-      Many (IsWrittenOffer text) offer_tokens offers → Optional None (IsSelection text) test_tokens test → IsOf kind.SEMICOLON semicolon →
+      Many (IsWrittenOffer text) offer_tokens offers → Optional None (IsSelection text) test_tokens test
+      → IsOfKind kind.SEMICOLON semicolon →
       D behaviours.BEHAVIOUR tokens (some_operands flat) →
       D behaviours.AFTER_OFFER (offer_tokens ++ (test_tokens ++ semicolon ∷ tokens))
       (an_action (record { offers = flat_map (λ group. group) offers; test = test; behind = flat }))
@@ -156,8 +157,8 @@ module _ (text : List ℕ) where
     tokens_are : tokens ≡ own ++ colon ∷ sort ∷ others
     variables_are : variables ≡ variables_of_sort xs (named text sort) ++ more
     first_names : AreNames text own xs
-    is_colon : IsOf kind.COLON colon
-    is_sort : IsOf kind.NAME sort
+    is_colon : IsOfKind kind.COLON colon
+    is_sort : IsOfKind kind.NAME sort
     more_derived : D names.MORE_VARIABLES others (some_variables more)
 
   variable_parts : {tokens : List Token} {variables : List WrittenVariable} → AreVariables text tokens variables →
@@ -208,7 +209,7 @@ module _ (text : List ℕ) where
     tokens_are : tokens ≡ own ++ word ∷ (gate_tokens ++ others)
     gates_are : gates ≡ gate_choices_among xs among ++ more
     first_names : AreNames text own xs
-    is_word : IsOf kind.IN word
+    is_word : IsOfKind kind.IN word
     is_among : AreWrittenGates text gate_tokens among
     more_derived : D behaviours.MORE_GATE_CHOICES others (some_gate_choices more)
 
@@ -255,14 +256,14 @@ module _ (text : List ℕ) where
     pub tree_is : grouped strength_of joined_by flat.operands flat.signs ≡ Some inside
 
   choice_of_values_derived : {word sign : Token} {variable_tokens tokens : List Token} {variables : List WrittenVariable}
-      {inside : WrittenBehaviour} → IsOf kind.CHOICE word →
-      VariableParts variable_tokens variables → IsOf kind.CHOICE_SIGN sign → FlatDerived tokens inside →
-      D behaviours.BEHAVIOUR (word ∷ (variable_tokens ++ sign ∷ tokens)) (alone (choose_value (place_of word) variables inside))
+      {inside : WrittenBehaviour} → IsOfKind kind.CHOICE word →
+      VariableParts variable_tokens variables → IsOfKind kind.CHOICE_SIGN sign → FlatDerived tokens inside →
+      D behaviours.BEHAVIOUR (word ∷ (variable_tokens ++ sign ∷ tokens)) (operand_alone (choose_value (place_of word) variables inside))
   choice_of_values_derived {word} {sign} {variable_tokens} {tokens} {variables} {inside} is_word it is_sign behaviour =
       subst (λ (l : List WrittenVariable). D behaviours.BEHAVIOUR (word ∷ (variable_tokens ++ sign ∷ tokens))
-      (alone (choose_value (place_of word) l inside))) (sym it.variables_are)
+      (operand_alone (choose_value (place_of word) l inside))) (sym it.variables_are)
       (subst (λ (l : List Token). D behaviours.BEHAVIOUR (word ∷ l)
-      (alone (choose_value (place_of word) (variables_of_sort it.xs (named text it.sort) ++ it.more) inside)))
+      (operand_alone (choose_value (place_of word) (variables_of_sort it.xs (named text it.sort) ++ it.more) inside)))
       (sym (append_assoc it.own (it.colon ∷ it.sort ∷ it.others) (sign ∷ tokens)) ∙ ap (λ (l : List Token). l ++ sign ∷ tokens)
       (sym it.tokens_are))
       (by_choice text is_word (names_derived text it.first_names)
@@ -270,14 +271,14 @@ module _ (text : List ℕ) where
       (by_chosen text is_sign behaviour.derived (ap (option_and_then _) behaviour.tree_is)) refl) refl))
 
   choice_of_gates_derived : {word sign : Token} {gate_tokens tokens : List Token} {gates : List WrittenGateChoice}
-      {inside : WrittenBehaviour} → IsOf kind.CHOICE word →
-      GateParts gate_tokens gates → IsOf kind.CHOICE_SIGN sign → FlatDerived tokens inside →
-      D behaviours.BEHAVIOUR (word ∷ (gate_tokens ++ sign ∷ tokens)) (alone (choose_gate (place_of word) gates inside))
+      {inside : WrittenBehaviour} → IsOfKind kind.CHOICE word →
+      GateParts gate_tokens gates → IsOfKind kind.CHOICE_SIGN sign → FlatDerived tokens inside →
+      D behaviours.BEHAVIOUR (word ∷ (gate_tokens ++ sign ∷ tokens)) (operand_alone (choose_gate (place_of word) gates inside))
   choice_of_gates_derived {word} {sign} {gate_tokens} {tokens} {gates} {inside} is_word it is_sign behaviour =
       subst (λ (l : List WrittenGateChoice). D behaviours.BEHAVIOUR (word ∷ (gate_tokens ++ sign ∷ tokens))
-      (alone (choose_gate (place_of word) l inside))) (sym it.gates_are)
+      (operand_alone (choose_gate (place_of word) l inside))) (sym it.gates_are)
       (subst (λ (l : List Token). D behaviours.BEHAVIOUR (word ∷ l)
-      (alone (choose_gate (place_of word) (gate_choices_among it.xs it.among ++ it.more) inside)))
+      (operand_alone (choose_gate (place_of word) (gate_choices_among it.xs it.among ++ it.more) inside)))
       (ap (λ (l : List Token). it.own ++ it.word ∷ l) (sym (append_assoc it.gate_tokens it.others (sign ∷ tokens)))
       ∙ sym (append_assoc it.own (it.word ∷ (it.gate_tokens ++ it.others)) (sign ∷ tokens)) ∙ ap (λ (l : List Token). l ++ sign ∷ tokens)
       (sym it.tokens_are))
@@ -334,7 +335,8 @@ module _ (text : List ℕ) where
         (by_bracketed_behaviour text is_left (behaviour_derived inside).derived is_right tail
         (ap (option_and_then _) (behaviour_derived inside).tree_is))
 
-    pub behaviour_derived : {tokens : List Token} {inside : WrittenBehaviour} → IsBehaviour text tokens inside → FlatDerived tokens inside
+    pub behaviour_derived : {tokens : List Token} {inside : WrittenBehaviour} → IsBehaviourText text tokens inside
+        → FlatDerived tokens inside
     behaviour_derived (family.grouped_operands {operands = operands} {signs = signs} them it) =
         record {
           flat = record { operands = operands; signs = signs };

@@ -13,7 +13,7 @@ use Rattle.lotos_rows.specs.declared.terms.TheConstants as terms
 use Rattle.lotos_rows.specs.declared.behaviours.BehavioursRow.TheVariants as row
 use Rattle.lotos_rows.specs.declared.row_names.RowName.TheVariants.{Behaviours}
 use Rattle.ll_engine.specs.declared.symbol.Symbol.TheVariants.{Token as Tok, Part}
-use Rattle.lotos_rows.specs.Words.{IsOf}
+use Rattle.lotos_rows.specs.Words.{IsOfKind}
 use Rattle.tree_building.specs.Meaning.{Meaning}
 use Rattle.tree_building.specs.RowMeaning.{behaviours_row_means}
 use Rattle.sentence_trees.specs.Sentences.{Derived}
@@ -23,7 +23,8 @@ module _ (text : List ℕ) where
   abbrev D : ℕ → List Token → Meaning → Type 0
   D = Derived text
 
-  pub by_hide : {t1 t2 : Token} {o1 o2 : List Token} {m1 m2 value : Meaning} → IsOf kind.HIDE t1 → D names.NAMES o1 m1 → IsOf kind.IN t2 →
+  pub by_hide : {t1 t2 : Token} {o1 o2 : List Token} {m1 m2 value : Meaning} → IsOfKind kind.HIDE t1 → D names.NAMES o1 m1
+      → IsOfKind kind.IN t2 →
       D behaviours.BEHAVIOUR o2 m2 → behaviours_row_means row.Hide (Some t1) (m1 ∷ m2 ∷ []) ≡ Some value →
       D behaviours.BEHAVIOUR (t1 ∷ (o1 ++ (t2 ∷ o2))) value
   by_hide {t1 = t1} {t2 = t2} {o1 = o1} {o2 = o2} {m1 = m1} {m2 = m2} {value = value} i1 d1 i2 d2 given =
@@ -33,8 +34,8 @@ module _ (text : List ℕ) where
       (Tok kind.HIDE ∷ Part names.NAMES ∷ Tok kind.IN ∷ Part behaviours.BEHAVIOUR ∷ [])) refl
       (token t1 i1.kind_is (part d1 (token t2 i2.kind_is (part d2 nothing)))) given)
 
-  pub by_let : {t1 t2 : Token} {o1 o2 : List Token} {m1 m2 value : Meaning} → IsOf kind.LET t1 → D behaviours.LET_LIST o1 m1 →
-      IsOf kind.IN t2 → D behaviours.BEHAVIOUR o2 m2 → behaviours_row_means row.Let (Some t1) (m1 ∷ m2 ∷ []) ≡ Some value →
+  pub by_let : {t1 t2 : Token} {o1 o2 : List Token} {m1 m2 value : Meaning} → IsOfKind kind.LET t1 → D behaviours.LET_LIST o1 m1 →
+      IsOfKind kind.IN t2 → D behaviours.BEHAVIOUR o2 m2 → behaviours_row_means row.Let (Some t1) (m1 ∷ m2 ∷ []) ≡ Some value →
       D behaviours.BEHAVIOUR (t1 ∷ (o1 ++ (t2 ∷ o2))) value
   by_let {t1 = t1} {t2 = t2} {o1 = o1} {o2 = o2} {m1 = m1} {m2 = m2} {value = value} i1 d1 i2 d2 given =
       subst (λ (l : List Token). D behaviours.BEHAVIOUR (t1 ∷ (o1 ++ (t2 ∷ l))) value) (append-nil o2)
@@ -43,7 +44,7 @@ module _ (text : List ℕ) where
       (Tok kind.LET ∷ Part behaviours.LET_LIST ∷ Tok kind.IN ∷ Part behaviours.BEHAVIOUR ∷ [])) refl
       (token t1 i1.kind_is (part d1 (token t2 i2.kind_is (part d2 nothing)))) given)
 
-  pub by_choice : {t1 : Token} {o1 o2 : List Token} {m1 m2 value : Meaning} → IsOf kind.CHOICE t1 → D names.NAMES o1 m1 →
+  pub by_choice : {t1 : Token} {o1 o2 : List Token} {m1 m2 value : Meaning} → IsOfKind kind.CHOICE t1 → D names.NAMES o1 m1 →
       D behaviours.AFTER_CHOICE o2 m2 → behaviours_row_means row.Choice (Some t1) (m1 ∷ m2 ∷ []) ≡ Some value →
       D behaviours.BEHAVIOUR (t1 ∷ (o1 ++ o2)) value
   by_choice {t1 = t1} {o1 = o1} {o2 = o2} {m1 = m1} {m2 = m2} {value = value} i1 d1 d2 given =
@@ -52,7 +53,7 @@ module _ (text : List ℕ) where
       (row_of (Behaviours row.Choice) behaviours.BEHAVIOUR (Tok kind.CHOICE ∷ Part names.NAMES ∷ Part behaviours.AFTER_CHOICE ∷ []))
       refl (token t1 i1.kind_is (part d1 (part d2 nothing))) given)
 
-  pub by_par : {t1 : Token} {o1 o2 o3 : List Token} {m1 m2 m3 value : Meaning} → IsOf kind.PAR t1 → D behaviours.GATE_CHOICES o1 m1 →
+  pub by_par : {t1 : Token} {o1 o2 o3 : List Token} {m1 m2 m3 value : Meaning} → IsOfKind kind.PAR t1 → D behaviours.GATE_CHOICES o1 m1 →
       D behaviours.PARALLEL o2 m2 → D behaviours.BEHAVIOUR o3 m3 →
       behaviours_row_means row.Par (Some t1) (m1 ∷ m2 ∷ m3 ∷ []) ≡ Some value → D behaviours.BEHAVIOUR (t1 ∷ (o1 ++ (o2 ++ o3))) value
   by_par {t1 = t1} {o1 = o1} {o2 = o2} {o3 = o3} {m1 = m1} {m2 = m2} {m3 = m3} {value = value} i1 d1 d2 d3 given =
@@ -62,7 +63,7 @@ module _ (text : List ℕ) where
       (Tok kind.PAR ∷ Part behaviours.GATE_CHOICES ∷ Part behaviours.PARALLEL ∷ Part behaviours.BEHAVIOUR ∷ [])) refl
       (token t1 i1.kind_is (part d1 (part d2 (part d3 nothing)))) given)
 
-  pub by_internal : {t1 t2 : Token} {o1 : List Token} {m1 value : Meaning} → IsOf kind.I t1 → IsOf kind.SEMICOLON t2 →
+  pub by_internal : {t1 t2 : Token} {o1 : List Token} {m1 value : Meaning} → IsOfKind kind.I t1 → IsOfKind kind.SEMICOLON t2 →
       D behaviours.BEHAVIOUR o1 m1 → behaviours_row_means row.Internal (Some t1) (m1 ∷ []) ≡ Some value →
       D behaviours.BEHAVIOUR (t1 ∷ (t2 ∷ o1)) value
   by_internal {t1 = t1} {t2 = t2} {o1 = o1} {m1 = m1} {value = value} i1 i2 d1 given =
@@ -71,8 +72,8 @@ module _ (text : List ℕ) where
       (row_of (Behaviours row.Internal) behaviours.BEHAVIOUR (Tok kind.I ∷ Tok kind.SEMICOLON ∷ Part behaviours.BEHAVIOUR ∷ [])) refl
       (token t1 i1.kind_is (token t2 i2.kind_is (part d1 nothing))) given)
 
-  pub by_guarded : {t1 t2 t3 : Token} {o1 o2 : List Token} {m1 m2 value : Meaning} → IsOf kind.LEFT_BRACKET t1 →
-      D equations.PREMISS o1 m1 → IsOf kind.RIGHT_BRACKET t2 → IsOf kind.ARROW t3 → D behaviours.BEHAVIOUR o2 m2 →
+  pub by_guarded : {t1 t2 t3 : Token} {o1 o2 : List Token} {m1 m2 value : Meaning} → IsOfKind kind.LEFT_BRACKET t1 →
+      D equations.PREMISS o1 m1 → IsOfKind kind.RIGHT_BRACKET t2 → IsOfKind kind.ARROW t3 → D behaviours.BEHAVIOUR o2 m2 →
       behaviours_row_means row.Guarded (Some t1) (m1 ∷ m2 ∷ []) ≡ Some value → D behaviours.BEHAVIOUR (t1 ∷ (o1 ++ (t2 ∷ (t3 ∷ o2)))) value
   by_guarded {t1 = t1} {t2 = t2} {t3 = t3} {o1 = o1} {o2 = o2} {m1 = m1} {m2 = m2} {value = value} i1 d1 i2 i3 d2 given =
       subst (λ (l : List Token). D behaviours.BEHAVIOUR (t1 ∷ (o1 ++ (t2 ∷ (t3 ∷ l)))) value) (append-nil o2)
@@ -88,14 +89,14 @@ module _ (text : List ℕ) where
       (derived_by text 95 (row_of (Behaviours row.NameFirst) behaviours.BEHAVIOUR (Part names.NAME ∷ Part behaviours.AFTER_NAME ∷ []))
       refl (part d1 (part d2 nothing)) given)
 
-  pub by_stop : {t1 : Token} {o1 : List Token} {m1 value : Meaning} → IsOf kind.STOP t1 → D behaviours.BEHAVIOUR_TAIL o1 m1 →
+  pub by_stop : {t1 : Token} {o1 : List Token} {m1 value : Meaning} → IsOfKind kind.STOP t1 → D behaviours.BEHAVIOUR_TAIL o1 m1 →
       behaviours_row_means row.Stop (Some t1) (m1 ∷ []) ≡ Some value → D behaviours.BEHAVIOUR (t1 ∷ o1) value
   by_stop {t1 = t1} {o1 = o1} {m1 = m1} {value = value} i1 d1 given =
       subst (λ (l : List Token). D behaviours.BEHAVIOUR (t1 ∷ l) value) (append-nil o1)
       (derived_by text 96 (row_of (Behaviours row.Stop) behaviours.BEHAVIOUR (Tok kind.STOP ∷ Part behaviours.BEHAVIOUR_TAIL ∷ []))
       refl (token t1 i1.kind_is (part d1 nothing)) given)
 
-  pub by_exit : {t1 : Token} {o1 o2 : List Token} {m1 m2 value : Meaning} → IsOf kind.EXIT t1 → D behaviours.EXIT_VALUES o1 m1 →
+  pub by_exit : {t1 : Token} {o1 o2 : List Token} {m1 m2 value : Meaning} → IsOfKind kind.EXIT t1 → D behaviours.EXIT_VALUES o1 m1 →
       D behaviours.BEHAVIOUR_TAIL o2 m2 → behaviours_row_means row.Exit (Some t1) (m1 ∷ m2 ∷ []) ≡ Some value →
       D behaviours.BEHAVIOUR (t1 ∷ (o1 ++ o2)) value
   by_exit {t1 = t1} {o1 = o1} {o2 = o2} {m1 = m1} {m2 = m2} {value = value} i1 d1 d2 given =
@@ -105,8 +106,8 @@ module _ (text : List ℕ) where
       (Tok kind.EXIT ∷ Part behaviours.EXIT_VALUES ∷ Part behaviours.BEHAVIOUR_TAIL ∷ [])) refl
       (token t1 i1.kind_is (part d1 (part d2 nothing))) given)
 
-  pub by_bracketed_behaviour : {t1 t2 : Token} {o1 o2 : List Token} {m1 m2 value : Meaning} → IsOf kind.LEFT_PARENTHESIS t1 →
-      D behaviours.BEHAVIOUR o1 m1 → IsOf kind.RIGHT_PARENTHESIS t2 → D behaviours.BEHAVIOUR_TAIL o2 m2 →
+  pub by_bracketed_behaviour : {t1 t2 : Token} {o1 o2 : List Token} {m1 m2 value : Meaning} → IsOfKind kind.LEFT_PARENTHESIS t1 →
+      D behaviours.BEHAVIOUR o1 m1 → IsOfKind kind.RIGHT_PARENTHESIS t2 → D behaviours.BEHAVIOUR_TAIL o2 m2 →
       behaviours_row_means row.BracketedBehaviour (Some t1) (m1 ∷ m2 ∷ []) ≡ Some value →
       D behaviours.BEHAVIOUR (t1 ∷ (o1 ++ (t2 ∷ o2))) value
   by_bracketed_behaviour {t1 = t1} {t2 = t2} {o1 = o1} {o2 = o2} {m1 = m1} {m2 = m2} {value = value} i1 d1 i2 d2 given =
@@ -129,7 +130,7 @@ module _ (text : List ℕ) where
       (row_of (Behaviours row.BehaviourTail) behaviours.BEHAVIOUR_TAIL (Part behaviours.SIGN ∷ Part behaviours.BEHAVIOUR ∷ [])) refl
       (part d1 (part d2 nothing)) given)
 
-  pub by_action_without_offers : {t1 : Token} {o1 : List Token} {m1 value : Meaning} → IsOf kind.SEMICOLON t1 →
+  pub by_action_without_offers : {t1 : Token} {o1 : List Token} {m1 value : Meaning} → IsOfKind kind.SEMICOLON t1 →
       D behaviours.BEHAVIOUR o1 m1 → behaviours_row_means row.ActionWithoutOffers None (m1 ∷ []) ≡ Some value →
       D behaviours.AFTER_NAME (t1 ∷ o1) value
   by_action_without_offers {t1 = t1} {o1 = o1} {m1 = m1} {value = value} i1 d1 given =
@@ -156,15 +157,15 @@ module _ (text : List ℕ) where
       (Part names.OPTIONAL_GATES ∷ Part terms.ARGUMENTS ∷ Part behaviours.BEHAVIOUR_TAIL ∷ [])) refl
       (part d1 (part d2 (part d3 nothing))) given)
 
-  pub by_give : {t1 : Token} {o1 : List Token} {m1 value : Meaning} → IsOf kind.EXCLAMATION t1 → D terms.TERM o1 m1 →
+  pub by_give : {t1 : Token} {o1 : List Token} {m1 value : Meaning} → IsOfKind kind.EXCLAMATION t1 → D terms.TERM o1 m1 →
       behaviours_row_means row.Give None (m1 ∷ []) ≡ Some value → D behaviours.OFFER (t1 ∷ o1) value
   by_give {t1 = t1} {o1 = o1} {m1 = m1} {value = value} i1 d1 given =
       subst (λ (l : List Token). D behaviours.OFFER (t1 ∷ l) value) (append-nil o1)
       (derived_by text 104 (row_of (Behaviours row.Give) behaviours.OFFER (Tok kind.EXCLAMATION ∷ Part terms.TERM ∷ [])) refl
       (token t1 i1.kind_is (part d1 nothing)) given)
 
-  pub by_ask : {t1 t2 : Token} {o1 o2 : List Token} {m1 m2 value : Meaning} → IsOf kind.QUESTION t1 → D names.NAMES o1 m1 →
-      IsOf kind.COLON t2 → D names.NAME o2 m2 → behaviours_row_means row.Ask None (m1 ∷ m2 ∷ []) ≡ Some value →
+  pub by_ask : {t1 t2 : Token} {o1 o2 : List Token} {m1 m2 value : Meaning} → IsOfKind kind.QUESTION t1 → D names.NAMES o1 m1 →
+      IsOfKind kind.COLON t2 → D names.NAME o2 m2 → behaviours_row_means row.Ask None (m1 ∷ m2 ∷ []) ≡ Some value →
       D behaviours.OFFER (t1 ∷ (o1 ++ (t2 ∷ o2))) value
   by_ask {t1 = t1} {t2 = t2} {o1 = o1} {o2 = o2} {m1 = m1} {m2 = m2} {value = value} i1 d1 i2 d2 given =
       subst (λ (l : List Token). D behaviours.OFFER (t1 ∷ (o1 ++ (t2 ∷ l))) value) (append-nil o2)
@@ -180,8 +181,8 @@ module _ (text : List ℕ) where
       (row_of (Behaviours row.OneMoreOffer) behaviours.AFTER_OFFER (Part behaviours.OFFER ∷ Part behaviours.AFTER_OFFER ∷ [])) refl
       (part d1 (part d2 nothing)) given)
 
-  pub by_selection_after_offers : {t1 t2 t3 : Token} {o1 o2 : List Token} {m1 m2 value : Meaning} → IsOf kind.LEFT_BRACKET t1 →
-      D equations.PREMISS o1 m1 → IsOf kind.RIGHT_BRACKET t2 → IsOf kind.SEMICOLON t3 → D behaviours.BEHAVIOUR o2 m2 →
+  pub by_selection_after_offers : {t1 t2 t3 : Token} {o1 o2 : List Token} {m1 m2 value : Meaning} → IsOfKind kind.LEFT_BRACKET t1 →
+      D equations.PREMISS o1 m1 → IsOfKind kind.RIGHT_BRACKET t2 → IsOfKind kind.SEMICOLON t3 → D behaviours.BEHAVIOUR o2 m2 →
       behaviours_row_means row.SelectionAfterOffers (Some t1) (m1 ∷ m2 ∷ []) ≡ Some value →
       D behaviours.AFTER_OFFER (t1 ∷ (o1 ++ (t2 ∷ (t3 ∷ o2)))) value
   by_selection_after_offers {t1 = t1} {t2 = t2} {t3 = t3} {o1 = o1} {o2 = o2} {m1 = m1} {m2 = m2} {value = value} i1 d1 i2 i3 d2 given =
@@ -191,7 +192,7 @@ module _ (text : List ℕ) where
       (Tok kind.LEFT_BRACKET ∷ Part equations.PREMISS ∷ Tok kind.RIGHT_BRACKET ∷ Tok kind.SEMICOLON ∷ Part behaviours.BEHAVIOUR ∷ []))
       refl (token t1 i1.kind_is (part d1 (token t2 i2.kind_is (token t3 i3.kind_is (part d2 nothing))))) given)
 
-  pub by_prefix_after_offers : {t1 : Token} {o1 : List Token} {m1 value : Meaning} → IsOf kind.SEMICOLON t1 →
+  pub by_prefix_after_offers : {t1 : Token} {o1 : List Token} {m1 value : Meaning} → IsOfKind kind.SEMICOLON t1 →
       D behaviours.BEHAVIOUR o1 m1 → behaviours_row_means row.PrefixAfterOffers None (m1 ∷ []) ≡ Some value →
       D behaviours.AFTER_OFFER (t1 ∷ o1) value
   by_prefix_after_offers {t1 = t1} {o1 = o1} {m1 = m1} {value = value} i1 d1 given =
@@ -204,8 +205,8 @@ module _ (text : List ℕ) where
       D behaviours.EXIT_VALUES ([]) value
   by_no_exit_values given = derived_by text 109 (row_of (Behaviours row.NoExitValues) behaviours.EXIT_VALUES ([])) refl nothing given
 
-  pub by_exit_values : {t1 t2 : Token} {o1 : List Token} {m1 value : Meaning} → IsOf kind.LEFT_PARENTHESIS t1 →
-      D behaviours.EXIT_LIST o1 m1 → IsOf kind.RIGHT_PARENTHESIS t2 →
+  pub by_exit_values : {t1 t2 : Token} {o1 : List Token} {m1 value : Meaning} → IsOfKind kind.LEFT_PARENTHESIS t1 →
+      D behaviours.EXIT_LIST o1 m1 → IsOfKind kind.RIGHT_PARENTHESIS t2 →
       behaviours_row_means row.ExitValues (Some t1) (m1 ∷ []) ≡ Some value → D behaviours.EXIT_VALUES (t1 ∷ (o1 ++ (t2 ∷ []))) value
   by_exit_values {t1 = t1} {t2 = t2} i1 d1 i2 given =
       derived_by text 110
@@ -213,7 +214,7 @@ module _ (text : List ℕ) where
       (Tok kind.LEFT_PARENTHESIS ∷ Part behaviours.EXIT_LIST ∷ Tok kind.RIGHT_PARENTHESIS ∷ [])) refl
       (token t1 i1.kind_is (part d1 (token t2 i2.kind_is nothing))) given
 
-  pub by_any_exit_value : {t1 : Token} {o1 o2 : List Token} {m1 m2 value : Meaning} → IsOf kind.ANY t1 → D names.NAME o1 m1 →
+  pub by_any_exit_value : {t1 : Token} {o1 o2 : List Token} {m1 m2 value : Meaning} → IsOfKind kind.ANY t1 → D names.NAME o1 m1 →
       D behaviours.MORE_EXIT_VALUES o2 m2 → behaviours_row_means row.AnyExitValue None (m1 ∷ m2 ∷ []) ≡ Some value →
       D behaviours.EXIT_LIST (t1 ∷ (o1 ++ o2)) value
   by_any_exit_value {t1 = t1} {o1 = o1} {o2 = o2} {m1 = m1} {m2 = m2} {value = value} i1 d1 d2 given =
@@ -236,7 +237,7 @@ module _ (text : List ℕ) where
   by_no_more_exit_values given =
       derived_by text 113 (row_of (Behaviours row.NoMoreExitValues) behaviours.MORE_EXIT_VALUES ([])) refl nothing given
 
-  pub by_more_exit_values : {t1 : Token} {o1 : List Token} {m1 value : Meaning} → IsOf kind.COMMA t1 → D behaviours.EXIT_LIST o1 m1 →
+  pub by_more_exit_values : {t1 : Token} {o1 : List Token} {m1 value : Meaning} → IsOfKind kind.COMMA t1 → D behaviours.EXIT_LIST o1 m1 →
       behaviours_row_means row.MoreExitValues None (m1 ∷ []) ≡ Some value → D behaviours.MORE_EXIT_VALUES (t1 ∷ o1) value
   by_more_exit_values {t1 = t1} {o1 = o1} {m1 = m1} {value = value} i1 d1 given =
       subst (λ (l : List Token). D behaviours.MORE_EXIT_VALUES (t1 ∷ l) value) (append-nil o1)
@@ -244,8 +245,8 @@ module _ (text : List ℕ) where
       (row_of (Behaviours row.MoreExitValues) behaviours.MORE_EXIT_VALUES (Tok kind.COMMA ∷ Part behaviours.EXIT_LIST ∷ [])) refl
       (token t1 i1.kind_is (part d1 nothing)) given)
 
-  pub by_let_list : {o1 o2 o3 o4 : List Token} {m1 m2 m3 m4 value : Meaning} {t1 t2 : Token} → D names.NAME o1 m1 → IsOf kind.COLON t1 →
-      D names.NAME o2 m2 → IsOf kind.EQUALS t2 → D terms.TERM o3 m3 → D behaviours.MORE_LETS o4 m4 →
+  pub by_let_list : {o1 o2 o3 o4 : List Token} {m1 m2 m3 m4 value : Meaning} {t1 t2 : Token} → D names.NAME o1 m1 → IsOfKind kind.COLON t1 →
+      D names.NAME o2 m2 → IsOfKind kind.EQUALS t2 → D terms.TERM o3 m3 → D behaviours.MORE_LETS o4 m4 →
       behaviours_row_means row.LetList None (m1 ∷ m2 ∷ m3 ∷ m4 ∷ []) ≡ Some value →
       D behaviours.LET_LIST (o1 ++ (t1 ∷ (o2 ++ (t2 ∷ (o3 ++ o4))))) value
   by_let_list {o1 = o1} {o2 = o2} {o3 = o3} {o4 = o4} {m1 = m1} {m2 = m2} {m3 = m3} {m4 = m4} {value = value} {t1 = t1} {t2 = t2} d1 i1 d2
@@ -259,14 +260,14 @@ module _ (text : List ℕ) where
   pub by_no_more_lets : {value : Meaning} → behaviours_row_means row.NoMoreLets None ([]) ≡ Some value → D behaviours.MORE_LETS ([]) value
   by_no_more_lets given = derived_by text 116 (row_of (Behaviours row.NoMoreLets) behaviours.MORE_LETS ([])) refl nothing given
 
-  pub by_more_lets : {t1 : Token} {o1 : List Token} {m1 value : Meaning} → IsOf kind.COMMA t1 → D behaviours.LET_LIST o1 m1 →
+  pub by_more_lets : {t1 : Token} {o1 : List Token} {m1 value : Meaning} → IsOfKind kind.COMMA t1 → D behaviours.LET_LIST o1 m1 →
       behaviours_row_means row.MoreLets None (m1 ∷ []) ≡ Some value → D behaviours.MORE_LETS (t1 ∷ o1) value
   by_more_lets {t1 = t1} {o1 = o1} {m1 = m1} {value = value} i1 d1 given =
       subst (λ (l : List Token). D behaviours.MORE_LETS (t1 ∷ l) value) (append-nil o1)
       (derived_by text 117 (row_of (Behaviours row.MoreLets) behaviours.MORE_LETS (Tok kind.COMMA ∷ Part behaviours.LET_LIST ∷ []))
       refl (token t1 i1.kind_is (part d1 nothing)) given)
 
-  pub by_choice_of_values : {t1 : Token} {o1 o2 o3 : List Token} {m1 m2 m3 value : Meaning} → IsOf kind.COLON t1 → D names.NAME o1 m1 →
+  pub by_choice_of_values : {t1 : Token} {o1 o2 o3 : List Token} {m1 m2 m3 value : Meaning} → IsOfKind kind.COLON t1 → D names.NAME o1 m1 →
       D names.MORE_VARIABLES o2 m2 → D behaviours.CHOSEN o3 m3 →
       behaviours_row_means row.ChoiceOfValues None (m1 ∷ m2 ∷ m3 ∷ []) ≡ Some value →
       D behaviours.AFTER_CHOICE (t1 ∷ (o1 ++ (o2 ++ o3))) value
@@ -277,7 +278,7 @@ module _ (text : List ℕ) where
       (Tok kind.COLON ∷ Part names.NAME ∷ Part names.MORE_VARIABLES ∷ Part behaviours.CHOSEN ∷ [])) refl
       (token t1 i1.kind_is (part d1 (part d2 (part d3 nothing)))) given)
 
-  pub by_choice_of_gates : {t1 : Token} {o1 o2 o3 : List Token} {m1 m2 m3 value : Meaning} → IsOf kind.IN t1 → D names.GATES o1 m1 →
+  pub by_choice_of_gates : {t1 : Token} {o1 o2 o3 : List Token} {m1 m2 m3 value : Meaning} → IsOfKind kind.IN t1 → D names.GATES o1 m1 →
       D behaviours.MORE_GATE_CHOICES o2 m2 → D behaviours.CHOSEN o3 m3 →
       behaviours_row_means row.ChoiceOfGates None (m1 ∷ m2 ∷ m3 ∷ []) ≡ Some value →
       D behaviours.AFTER_CHOICE (t1 ∷ (o1 ++ (o2 ++ o3))) value
@@ -288,14 +289,14 @@ module _ (text : List ℕ) where
       (Tok kind.IN ∷ Part names.GATES ∷ Part behaviours.MORE_GATE_CHOICES ∷ Part behaviours.CHOSEN ∷ [])) refl
       (token t1 i1.kind_is (part d1 (part d2 (part d3 nothing)))) given)
 
-  pub by_chosen : {t1 : Token} {o1 : List Token} {m1 value : Meaning} → IsOf kind.CHOICE_SIGN t1 → D behaviours.BEHAVIOUR o1 m1 →
+  pub by_chosen : {t1 : Token} {o1 : List Token} {m1 value : Meaning} → IsOfKind kind.CHOICE_SIGN t1 → D behaviours.BEHAVIOUR o1 m1 →
       behaviours_row_means row.Chosen (Some t1) (m1 ∷ []) ≡ Some value → D behaviours.CHOSEN (t1 ∷ o1) value
   by_chosen {t1 = t1} {o1 = o1} {m1 = m1} {value = value} i1 d1 given =
       subst (λ (l : List Token). D behaviours.CHOSEN (t1 ∷ l) value) (append-nil o1)
       (derived_by text 120 (row_of (Behaviours row.Chosen) behaviours.CHOSEN (Tok kind.CHOICE_SIGN ∷ Part behaviours.BEHAVIOUR ∷ []))
       refl (token t1 i1.kind_is (part d1 nothing)) given)
 
-  pub by_gate_choices : {o1 o2 o3 : List Token} {m1 m2 m3 value : Meaning} {t1 : Token} → D names.NAMES o1 m1 → IsOf kind.IN t1 →
+  pub by_gate_choices : {o1 o2 o3 : List Token} {m1 m2 m3 value : Meaning} {t1 : Token} → D names.NAMES o1 m1 → IsOfKind kind.IN t1 →
       D names.GATES o2 m2 → D behaviours.MORE_GATE_CHOICES o3 m3 →
       behaviours_row_means row.GateChoices None (m1 ∷ m2 ∷ m3 ∷ []) ≡ Some value → D behaviours.GATE_CHOICES (o1 ++ (t1 ∷ (o2 ++ o3))) value
   by_gate_choices {o1 = o1} {o2 = o2} {o3 = o3} {m1 = m1} {m2 = m2} {m3 = m3} {value = value} {t1 = t1} d1 i1 d2 d3 given =
@@ -310,7 +311,8 @@ module _ (text : List ℕ) where
   by_no_more_gate_choices given =
       derived_by text 122 (row_of (Behaviours row.NoMoreGateChoices) behaviours.MORE_GATE_CHOICES ([])) refl nothing given
 
-  pub by_more_gate_choices : {t1 : Token} {o1 : List Token} {m1 value : Meaning} → IsOf kind.COMMA t1 → D behaviours.GATE_CHOICES o1 m1 →
+  pub by_more_gate_choices : {t1 : Token} {o1 : List Token} {m1 value : Meaning} → IsOfKind kind.COMMA t1
+      → D behaviours.GATE_CHOICES o1 m1 →
       behaviours_row_means row.MoreGateChoices None (m1 ∷ []) ≡ Some value → D behaviours.MORE_GATE_CHOICES (t1 ∷ o1) value
   by_more_gate_choices {t1 = t1} {o1 = o1} {m1 = m1} {value = value} i1 d1 given =
       subst (λ (l : List Token). D behaviours.MORE_GATE_CHOICES (t1 ∷ l) value) (append-nil o1)
@@ -318,7 +320,7 @@ module _ (text : List ℕ) where
       (row_of (Behaviours row.MoreGateChoices) behaviours.MORE_GATE_CHOICES (Tok kind.COMMA ∷ Part behaviours.GATE_CHOICES ∷ [])) refl
       (token t1 i1.kind_is (part d1 nothing)) given)
 
-  pub by_choice_sign : {t1 : Token} {value : Meaning} → IsOf kind.CHOICE_SIGN t1 →
+  pub by_choice_sign : {t1 : Token} {value : Meaning} → IsOfKind kind.CHOICE_SIGN t1 →
       behaviours_row_means row.ChoiceSign (Some t1) ([]) ≡ Some value → D behaviours.SIGN (t1 ∷ []) value
   by_choice_sign {t1 = t1} i1 given =
       derived_by text 124 (row_of (Behaviours row.ChoiceSign) behaviours.SIGN (Tok kind.CHOICE_SIGN ∷ [])) refl
@@ -331,33 +333,33 @@ module _ (text : List ℕ) where
       (derived_by text 125 (row_of (Behaviours row.ParallelSign) behaviours.SIGN (Part behaviours.PARALLEL ∷ [])) refl
       (part d1 nothing) given)
 
-  pub by_disabling_sign : {t1 : Token} {value : Meaning} → IsOf kind.DISABLING t1 →
+  pub by_disabling_sign : {t1 : Token} {value : Meaning} → IsOfKind kind.DISABLING t1 →
       behaviours_row_means row.DisablingSign (Some t1) ([]) ≡ Some value → D behaviours.SIGN (t1 ∷ []) value
   by_disabling_sign {t1 = t1} i1 given =
       derived_by text 126 (row_of (Behaviours row.DisablingSign) behaviours.SIGN (Tok kind.DISABLING ∷ [])) refl
       (token t1 i1.kind_is nothing) given
 
-  pub by_enabling_sign : {t1 : Token} {o1 : List Token} {m1 value : Meaning} → IsOf kind.ENABLING t1 → D behaviours.ACCEPT o1 m1 →
+  pub by_enabling_sign : {t1 : Token} {o1 : List Token} {m1 value : Meaning} → IsOfKind kind.ENABLING t1 → D behaviours.ACCEPT o1 m1 →
       behaviours_row_means row.EnablingSign (Some t1) (m1 ∷ []) ≡ Some value → D behaviours.SIGN (t1 ∷ o1) value
   by_enabling_sign {t1 = t1} {o1 = o1} {m1 = m1} {value = value} i1 d1 given =
       subst (λ (l : List Token). D behaviours.SIGN (t1 ∷ l) value) (append-nil o1)
       (derived_by text 127 (row_of (Behaviours row.EnablingSign) behaviours.SIGN (Tok kind.ENABLING ∷ Part behaviours.ACCEPT ∷ []))
       refl (token t1 i1.kind_is (part d1 nothing)) given)
 
-  pub by_interleaving : {t1 : Token} {value : Meaning} → IsOf kind.INTERLEAVING t1 →
+  pub by_interleaving : {t1 : Token} {value : Meaning} → IsOfKind kind.INTERLEAVING t1 →
       behaviours_row_means row.Interleaving (Some t1) ([]) ≡ Some value → D behaviours.PARALLEL (t1 ∷ []) value
   by_interleaving {t1 = t1} i1 given =
       derived_by text 128 (row_of (Behaviours row.Interleaving) behaviours.PARALLEL (Tok kind.INTERLEAVING ∷ [])) refl
       (token t1 i1.kind_is nothing) given
 
-  pub by_full_synchronisation : {t1 : Token} {value : Meaning} → IsOf kind.FULL_SYNCHRONISATION t1 →
+  pub by_full_synchronisation : {t1 : Token} {value : Meaning} → IsOfKind kind.FULL_SYNCHRONISATION t1 →
       behaviours_row_means row.FullSynchronisation (Some t1) ([]) ≡ Some value → D behaviours.PARALLEL (t1 ∷ []) value
   by_full_synchronisation {t1 = t1} i1 given =
       derived_by text 129 (row_of (Behaviours row.FullSynchronisation) behaviours.PARALLEL (Tok kind.FULL_SYNCHRONISATION ∷ [])) refl
       (token t1 i1.kind_is nothing) given
 
-  pub by_gate_synchronisation : {t1 t2 : Token} {o1 : List Token} {m1 value : Meaning} → IsOf kind.GATES_OPEN t1 →
-      D names.OPTIONAL_NAMES o1 m1 → IsOf kind.GATES_CLOSE t2 →
+  pub by_gate_synchronisation : {t1 t2 : Token} {o1 : List Token} {m1 value : Meaning} → IsOfKind kind.GATES_OPEN t1 →
+      D names.OPTIONAL_NAMES o1 m1 → IsOfKind kind.GATES_CLOSE t2 →
       behaviours_row_means row.GateSynchronisation (Some t1) (m1 ∷ []) ≡ Some value → D behaviours.PARALLEL (t1 ∷ (o1 ++ (t2 ∷ []))) value
   by_gate_synchronisation {t1 = t1} {t2 = t2} i1 d1 i2 given =
       derived_by text 130
@@ -368,8 +370,8 @@ module _ (text : List ℕ) where
   pub by_no_accept : {value : Meaning} → behaviours_row_means row.NoAccept None ([]) ≡ Some value → D behaviours.ACCEPT ([]) value
   by_no_accept given = derived_by text 131 (row_of (Behaviours row.NoAccept) behaviours.ACCEPT ([])) refl nothing given
 
-  pub by_accept : {t1 t2 : Token} {o1 : List Token} {m1 value : Meaning} → IsOf kind.ACCEPT t1 → D names.VARIABLES o1 m1 →
-      IsOf kind.IN t2 → behaviours_row_means row.Accept None (m1 ∷ []) ≡ Some value → D behaviours.ACCEPT (t1 ∷ (o1 ++ (t2 ∷ []))) value
+  pub by_accept : {t1 t2 : Token} {o1 : List Token} {m1 value : Meaning} → IsOfKind kind.ACCEPT t1 → D names.VARIABLES o1 m1 →
+      IsOfKind kind.IN t2 → behaviours_row_means row.Accept None (m1 ∷ []) ≡ Some value → D behaviours.ACCEPT (t1 ∷ (o1 ++ (t2 ∷ []))) value
   by_accept {t1 = t1} {t2 = t2} i1 d1 i2 given =
       derived_by text 132 (row_of (Behaviours row.Accept) behaviours.ACCEPT (Tok kind.ACCEPT ∷ Part names.VARIABLES ∷ Tok kind.IN ∷ []))
       refl (token t1 i1.kind_is (part d1 (token t2 i2.kind_is nothing))) given

@@ -16,7 +16,7 @@ use Rattle.lotos_rows.specs.Words.{behind}
 use Rattle.sentence_trees.specs.BehavioursSentences.{acts_at_once, acts_with_offers, calls, of_values, of_gates}
 use Rattle.sentence_trees.specs.PartSentences.{as_one}
 use Rattle.sentence_trees.specs.Sentences.{GivesMeaning}
-use Rattle.sentence_trees.proofs.Each.{Each}
+use Rattle.lotos_base.proofs.Each.{Each}
 use Rattle.sentence_trees.proofs.FlatLists.{inside_of}
 
 module _ (text : List ℕ) where

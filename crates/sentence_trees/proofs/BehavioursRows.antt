@@ -20,13 +20,13 @@ use Rattle.std.proofs.lemmas.Option.{option_and_then_some}
 use Rattle.lotos_base.specs.WrittenTerm.{PlacedName}
 use Rattle.syntax_trees.specs.WrittenBehaviour.{WrittenGateChoice, WrittenOffer, WrittenBehaviour, action}
 use Rattle.syntax_trees.specs.Strength.{strength_of}
-use Rattle.syntax_trees.specs.Strength.{joined as joined_by}
+use Rattle.syntax_trees.specs.Strength.{joined_by_sign as joined_by}
 use Rattle.syntax_trees.specs.Grouping.{grouped}
 use Rattle.syntax_trees.proofs.Groupings.{grouped_is}
-use Rattle.lotos_rows.specs.Words.{IsOf, Optional, left_out, there, Many, no_more, and_then, Separated, last, before_more, Behind, behind, between}
+use Rattle.lotos_rows.specs.Words.{IsOfKind, Optional, left_out, there, Many, no_more, and_then, Separated, last, before_more, Behind, behind, between}
 use Rattle.lotos_rows.specs.Names.{place_of, spelled, AreNames, AreWrittenGates}
 use Rattle.lotos_rows.specs.Names as names_family
-use Rattle.lotos_rows.specs.Behaviours.{before_first, gate_choices_among, AreGateChoices, IsWrittenOffer, IsSelection, AreOperands, IsAtom, IsBehaviour}
+use Rattle.lotos_rows.specs.Behaviours.{before_first, gate_choices_among, AreGateChoices, IsWrittenOffer, IsSelection, AreOperands, IsAtom, IsBehaviourText}
 use Rattle.lotos_rows.specs.Behaviours as family
 use Rattle.lotos_rows.specs.BehavioursRows.{behaviours_rows}
 use Rattle.tree_building.specs.Meaning.{Meaning, PlainFlat, PlainActionEnd}
@@ -34,7 +34,7 @@ use Rattle.tree_building.specs.BehavioursMeaning.{with_grouped}
 use Rattle.sentence_trees.specs.NamesSentences.{Further}
 use Rattle.sentence_trees.specs.TermsSentences.{started}
 use Rattle.sentence_trees.specs.BehavioursSentences.{IsTail, nothing_behind, sign_and_operands, IsAfterOffer, one_more_offer, with_selection, without_selection, IsAfterName, acts_at_once, acts_with_offers, calls, IsAfterChoice, of_values, of_gates}
-use Rattle.sentence_trees.proofs.Each.{Each}
+use Rattle.lotos_base.proofs.Each.{Each}
 use Rattle.sentence_trees.proofs.NamesRows.{variables_joined}
 use Rattle.sentence_trees.proofs.Lists.{is_of, shown, joined}
 
@@ -61,7 +61,7 @@ module _ (text : List ℕ) where
   atom_before_tail it (sign_and_operands sign flat) = family.before_sign it sign flat
 
   gate_choices_joined : {own gate_tokens tokens : List Token} {word : Token} {xs gates : List PlacedName}
-      {more : List WrittenGateChoice} → AreNames text own xs → IsOf kind.IN word →
+      {more : List WrittenGateChoice} → AreNames text own xs → IsOfKind kind.IN word →
       AreWrittenGates text gate_tokens gates → Optional [] (Behind kind.COMMA (AreGateChoices text)) tokens more →
       AreGateChoices text (own ++ word ∷ (gate_tokens ++ tokens)) (gate_choices_among xs gates ++ more)
   gate_choices_joined {own = own} {gate_tokens = gate_tokens} {word = w} {xs = xs} {gates = gates} names_are word gates_are left_out =
@@ -84,7 +84,7 @@ module _ (text : List ℕ) where
     are_offers : Many (IsWrittenOffer text) offer_tokens offers
     offers_are : end.offers ≡ flat_map (λ group. group) offers
     is_test : Optional None (IsSelection text) test_tokens end.test
-    is_semicolon : IsOf kind.SEMICOLON semicolon
+    is_semicolon : IsOfKind kind.SEMICOLON semicolon
     flat : AreOperands text rest end.behind.operands end.behind.signs
 
   offer_parts : {tokens : List Token} {end : PlainActionEnd} → IsAfterOffer text tokens end → OfferParts tokens end
@@ -134,7 +134,7 @@ module _ (text : List ℕ) where
     flat = flat;
   }
 
-  offering_from : {gate : Token} {own tokens : List Token} {first : List WrittenOffer} {end : PlainActionEnd} → IsOf kind.NAME gate →
+  offering_from : {gate : Token} {own tokens : List Token} {first : List WrittenOffer} {end : PlainActionEnd} → IsOfKind kind.NAME gate →
       IsWrittenOffer text own first → OfferParts tokens end →
       AreOperands text (gate ∷ (own ++ tokens))
       (before_first (action (place_of gate) (spelled text gate) (first ++ end.offers) end.test) end.behind.operands) end.behind.signs
@@ -157,7 +157,7 @@ module _ (text : List ℕ) where
   pub with_inside : {P : Type 0} {tokens : List Token} {flat : PlainFlat} {value : Meaning} (next : WrittenBehaviour → Option Meaning) →
       AreOperands text tokens flat.operands flat.signs →
       with_grouped flat next ≡ Some value →
-      ((inside : WrittenBehaviour) → IsBehaviour text tokens inside → next inside ≡ Some value → P) → P
+      ((inside : WrittenBehaviour) → IsBehaviourText text tokens inside → next inside ≡ Some value → P) → P
   with_inside {flat = flat} {value = value} next them given then =
       option_and_then_some next (grouped strength_of joined_by flat.operands flat.signs) value given
       (λ inside is same. then inside (family.grouped_operands them (grouped_is strength_of joined_by flat.operands flat.signs inside is))

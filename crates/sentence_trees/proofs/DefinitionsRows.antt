@@ -17,7 +17,7 @@ use Rattle.lotos_rows.specs.Words.{left_out, there, between}
 use Rattle.lotos_rows.specs.Names as names_family
 use Rattle.lotos_rows.specs.Definitions as family
 use Rattle.lotos_rows.specs.DefinitionsRows.{definitions_rows}
-use Rattle.sentence_trees.proofs.Each.{Each}
+use Rattle.lotos_base.proofs.Each.{Each}
 use Rattle.sentence_trees.proofs.BehavioursRows.{with_inside}
 use Rattle.sentence_trees.proofs.Lists.{is_of, shown}
 

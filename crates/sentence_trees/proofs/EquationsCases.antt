@@ -10,7 +10,7 @@ use Rattle.lotos_rows.specs.declared.terms.TheConstants as terms
 use Rattle.lotos_rows.specs.declared.equations.TheConstants as equations
 use Rattle.syntax_trees.specs.WrittenVariable.{WrittenVariable}
 use Rattle.syntax_trees.specs.WrittenEquation.{WrittenPremiss, WrittenEquation, WrittenGroup}
-use Rattle.lotos_rows.specs.Words.{IsOf, Optional, left_out, there, Many, no_more, and_then, Separated, last, before_more, behind}
+use Rattle.lotos_rows.specs.Words.{IsOfKind, Optional, left_out, there, Many, no_more, and_then, Separated, last, before_more, behind}
 use Rattle.lotos_rows.specs.Names.{place_of, spelled}
 use Rattle.lotos_rows.specs.Terms.{IsTerm}
 use Rattle.lotos_rows.specs.Equations.{IsPremiss, IsWrittenEquation, IsEquationList, AreForAll, IsEquationGroup}
@@ -52,17 +52,18 @@ module _ (text : List ℕ) where
   abbrev conclusion_of : List WrittenPremiss → Place → WrittenTerm → WrittenTerm → PlainConclusion
   conclusion_of premisses arrow left right = record { premisses = premisses; arrow = arrow; left = left; right = right }
 
-  implied_derived : {arrow equals : Token} {left_tokens right_tokens : List Token} {left right : WrittenTerm} → IsOf kind.IMPLIES arrow →
-      IsTerm text left_tokens left → IsOf kind.EQUALS equals →
+  implied_derived : {arrow equals : Token} {left_tokens right_tokens : List Token} {left right : WrittenTerm}
+      → IsOfKind kind.IMPLIES arrow →
+      IsTerm text left_tokens left → IsOfKind kind.EQUALS equals →
       IsTerm text right_tokens right → D equations.CONCLUSION (arrow ∷ (left_tokens ++ equals ∷ right_tokens))
       (a_conclusion (conclusion_of [] (place_of arrow) left right))
   implied_derived arrow left equals right =
       by_conclusion text arrow (term_derived text left).derived equals (term_derived text right).derived refl
 
   conclusion_derived : {comma arrow equals : Token} {tokens left_tokens right_tokens : List Token} {premisses : List WrittenPremiss}
-      {left right : WrittenTerm} → IsOf kind.COMMA comma →
-      Separated kind.COMMA (IsPremiss text) tokens premisses → IsOf kind.IMPLIES arrow → IsTerm text left_tokens left →
-      IsOf kind.EQUALS equals → IsTerm text right_tokens right →
+      {left right : WrittenTerm} → IsOfKind kind.COMMA comma →
+      Separated kind.COMMA (IsPremiss text) tokens premisses → IsOfKind kind.IMPLIES arrow → IsTerm text left_tokens left →
+      IsOfKind kind.EQUALS equals → IsTerm text right_tokens right →
       D equations.CONCLUSION (comma ∷ (tokens ++ arrow ∷ (left_tokens ++ equals ∷ right_tokens)))
       (a_conclusion (conclusion_of premisses (place_of arrow) left right))
   conclusion_derived comma (last it) arrow left equals right =
@@ -114,8 +115,8 @@ module _ (text : List ℕ) where
 
   with_premisses_derived : {first arrow equals : Token} {rest left_tokens right_tokens : List Token} {premisses : List WrittenPremiss}
       {left right : WrittenTerm} →
-      Separated kind.COMMA (IsPremiss text) (first ∷ rest) premisses → IsOf kind.IMPLIES arrow → IsTerm text left_tokens left →
-      IsOf kind.EQUALS equals → IsTerm text right_tokens right →
+      Separated kind.COMMA (IsPremiss text) (first ∷ rest) premisses → IsOfKind kind.IMPLIES arrow → IsTerm text left_tokens left →
+      IsOfKind kind.EQUALS equals → IsTerm text right_tokens right →
       D equations.EQUATION ((first ∷ rest) ++ arrow ∷ (left_tokens ++ equals ∷ right_tokens))
       (an_equation (record { place = place_of first; premisses = premisses; arrow = Some (place_of arrow); left = left; right = right }))
   with_premisses_derived {first} {arrow} {equals} {rest} {left_tokens} {right_tokens} {premisses} {left} {right} them is_arrow is_left

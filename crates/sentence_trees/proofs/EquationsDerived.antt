@@ -12,7 +12,7 @@ use Rattle.lotos_rows.specs.declared.terms.TheConstants as terms
 use Rattle.lotos_rows.specs.declared.equations.EquationsRow.TheVariants as row
 use Rattle.lotos_rows.specs.declared.row_names.RowName.TheVariants.{Equations}
 use Rattle.ll_engine.specs.declared.symbol.Symbol.TheVariants.{Token as Tok, Part}
-use Rattle.lotos_rows.specs.Words.{IsOf}
+use Rattle.lotos_rows.specs.Words.{IsOfKind}
 use Rattle.tree_building.specs.Meaning.{Meaning}
 use Rattle.tree_building.specs.RowMeaning.{equations_row_means}
 use Rattle.sentence_trees.specs.Sentences.{Derived}
@@ -27,7 +27,7 @@ module _ (text : List ℕ) where
   by_no_variables_for_all given =
       derived_by text 58 (row_of (Equations row.NoVariablesForAll) equations.VARIABLES_FOR_ALL ([])) refl nothing given
 
-  pub by_variables_for_all : {t1 : Token} {o1 : List Token} {m1 value : Meaning} → IsOf kind.FORALL t1 → D names.VARIABLES o1 m1 →
+  pub by_variables_for_all : {t1 : Token} {o1 : List Token} {m1 value : Meaning} → IsOfKind kind.FORALL t1 → D names.VARIABLES o1 m1 →
       equations_row_means row.VariablesForAll None (m1 ∷ []) ≡ Some value → D equations.VARIABLES_FOR_ALL (t1 ∷ o1) value
   by_variables_for_all {t1 = t1} {o1 = o1} {m1 = m1} {value = value} i1 d1 given =
       subst (λ (l : List Token). D equations.VARIABLES_FOR_ALL (t1 ∷ l) value) (append-nil o1)
@@ -40,7 +40,7 @@ module _ (text : List ℕ) where
   by_no_equation_groups given =
       derived_by text 60 (row_of (Equations row.NoEquationGroups) equations.EQUATION_GROUPS ([])) refl nothing given
 
-  pub by_equation_groups : {t1 : Token} {o1 o2 o3 o4 : List Token} {m1 m2 m3 m4 value : Meaning} → IsOf kind.OFSORT t1 →
+  pub by_equation_groups : {t1 : Token} {o1 o2 o3 o4 : List Token} {m1 m2 m3 m4 value : Meaning} → IsOfKind kind.OFSORT t1 →
       D names.NAME o1 m1 → D equations.VARIABLES_FOR_ALL o2 m2 → D equations.EQUATION_LIST o3 m3 → D equations.EQUATION_GROUPS o4 m4 →
       equations_row_means row.EquationGroups None (m1 ∷ m2 ∷ m3 ∷ m4 ∷ []) ≡ Some value →
       D equations.EQUATION_GROUPS (t1 ∷ (o1 ++ (o2 ++ (o3 ++ o4)))) value
@@ -68,7 +68,8 @@ module _ (text : List ℕ) where
       D equations.AFTER_EQUATION ([]) value
   by_no_after_equation given = derived_by text 64 (row_of (Equations row.NoAfterEquation) equations.AFTER_EQUATION ([])) refl nothing given
 
-  pub by_after_equation : {t1 : Token} {o1 : List Token} {m1 value : Meaning} → IsOf kind.SEMICOLON t1 → D equations.EQUATION_LIST o1 m1 →
+  pub by_after_equation : {t1 : Token} {o1 : List Token} {m1 value : Meaning} → IsOfKind kind.SEMICOLON t1
+      → D equations.EQUATION_LIST o1 m1 →
       equations_row_means row.AfterEquation None (m1 ∷ []) ≡ Some value → D equations.AFTER_EQUATION (t1 ∷ o1) value
   by_after_equation {t1 = t1} {o1 = o1} {m1 = m1} {value = value} i1 d1 given =
       subst (λ (l : List Token). D equations.AFTER_EQUATION (t1 ∷ l) value) (append-nil o1)
@@ -84,7 +85,7 @@ module _ (text : List ℕ) where
       (row_of (Equations row.Equation) equations.EQUATION (Part terms.TERM ∷ Part equations.AFTER_FIRST_TERM ∷ [])) refl
       (part d1 (part d2 nothing)) given)
 
-  pub by_equals_after_term : {t1 : Token} {o1 o2 : List Token} {m1 m2 value : Meaning} → IsOf kind.EQUALS t1 → D terms.TERM o1 m1 →
+  pub by_equals_after_term : {t1 : Token} {o1 o2 : List Token} {m1 m2 value : Meaning} → IsOfKind kind.EQUALS t1 → D terms.TERM o1 m1 →
       D equations.AFTER_FIRST_PAIR o2 m2 → equations_row_means row.EqualsAfterTerm None (m1 ∷ m2 ∷ []) ≡ Some value →
       D equations.AFTER_FIRST_TERM (t1 ∷ (o1 ++ o2)) value
   by_equals_after_term {t1 = t1} {o1 = o1} {o2 = o2} {m1 = m1} {m2 = m2} {value = value} i1 d1 d2 given =
@@ -113,7 +114,7 @@ module _ (text : List ℕ) where
       (derived_by text 70 (row_of (Equations row.AfterFirstPair) equations.AFTER_FIRST_PAIR (Part equations.CONCLUSION ∷ [])) refl
       (part d1 nothing) given)
 
-  pub by_premiss_and_conclusion : {t1 : Token} {o1 o2 : List Token} {m1 m2 value : Meaning} → IsOf kind.COMMA t1 →
+  pub by_premiss_and_conclusion : {t1 : Token} {o1 o2 : List Token} {m1 m2 value : Meaning} → IsOfKind kind.COMMA t1 →
       D equations.PREMISS o1 m1 → D equations.CONCLUSION o2 m2 →
       equations_row_means row.PremissAndConclusion None (m1 ∷ m2 ∷ []) ≡ Some value → D equations.CONCLUSION (t1 ∷ (o1 ++ o2)) value
   by_premiss_and_conclusion {t1 = t1} {o1 = o1} {o2 = o2} {m1 = m1} {m2 = m2} {value = value} i1 d1 d2 given =
@@ -123,8 +124,8 @@ module _ (text : List ℕ) where
       (Tok kind.COMMA ∷ Part equations.PREMISS ∷ Part equations.CONCLUSION ∷ [])) refl
       (token t1 i1.kind_is (part d1 (part d2 nothing))) given)
 
-  pub by_conclusion : {t1 t2 : Token} {o1 o2 : List Token} {m1 m2 value : Meaning} → IsOf kind.IMPLIES t1 → D terms.TERM o1 m1 →
-      IsOf kind.EQUALS t2 → D terms.TERM o2 m2 → equations_row_means row.Conclusion (Some t1) (m1 ∷ m2 ∷ []) ≡ Some value →
+  pub by_conclusion : {t1 t2 : Token} {o1 o2 : List Token} {m1 m2 value : Meaning} → IsOfKind kind.IMPLIES t1 → D terms.TERM o1 m1 →
+      IsOfKind kind.EQUALS t2 → D terms.TERM o2 m2 → equations_row_means row.Conclusion (Some t1) (m1 ∷ m2 ∷ []) ≡ Some value →
       D equations.CONCLUSION (t1 ∷ (o1 ++ (t2 ∷ o2))) value
   by_conclusion {t1 = t1} {t2 = t2} {o1 = o1} {o2 = o2} {m1 = m1} {m2 = m2} {value = value} i1 d1 i2 d2 given =
       subst (λ (l : List Token). D equations.CONCLUSION (t1 ∷ (o1 ++ (t2 ∷ l))) value) (append-nil o2)
@@ -144,7 +145,7 @@ module _ (text : List ℕ) where
       D equations.PREMISS_RIGHT ([]) value
   by_no_premiss_right given = derived_by text 74 (row_of (Equations row.NoPremissRight) equations.PREMISS_RIGHT ([])) refl nothing given
 
-  pub by_premiss_right : {t1 : Token} {o1 : List Token} {m1 value : Meaning} → IsOf kind.EQUALS t1 → D terms.TERM o1 m1 →
+  pub by_premiss_right : {t1 : Token} {o1 : List Token} {m1 value : Meaning} → IsOfKind kind.EQUALS t1 → D terms.TERM o1 m1 →
       equations_row_means row.PremissRight None (m1 ∷ []) ≡ Some value → D equations.PREMISS_RIGHT (t1 ∷ o1) value
   by_premiss_right {t1 = t1} {o1 = o1} {m1 = m1} {value = value} i1 d1 given =
       subst (λ (l : List Token). D equations.PREMISS_RIGHT (t1 ∷ l) value) (append-nil o1)

@@ -14,7 +14,7 @@ use Rattle.sentence_trees.specs.TermsSentences.{started}
 use Rattle.sentence_trees.specs.EquationsSentences.{not_there, is_there, right_side, only_conclusion}
 use Rattle.sentence_trees.specs.PartSentences.{as_one}
 use Rattle.sentence_trees.specs.Sentences.{GivesMeaning}
-use Rattle.sentence_trees.proofs.Each.{Each}
+use Rattle.lotos_base.proofs.Each.{Each}
 
 module _ (text : List ℕ) where
   no_variables_for_all_gives : GivesMeaning text (row_of (Equations row.NoVariablesForAll) equations.VARIABLES_FOR_ALL [])

@@ -17,7 +17,7 @@ use Rattle.sentence_trees.specs.Sentences.{KeepsParts}
 use Rattle.lotos_base.specs.WrittenTerm.{WrittenTerm}
 use Rattle.lotos_base.specs.Equation.{Place}
 use Rattle.syntax_trees.specs.WrittenEquation.{WrittenPremiss, WrittenEquation}
-use Rattle.lotos_rows.specs.Words.{IsOf, left_out, there, no_more, and_then, Separated, last, before_more, Behind, behind}
+use Rattle.lotos_rows.specs.Words.{IsOfKind, left_out, there, no_more, and_then, Separated, last, before_more, Behind, behind}
 use Rattle.lotos_rows.specs.Names.{place_of}
 use Rattle.lotos_rows.specs.Names as names_family
 use Rattle.lotos_rows.specs.Terms.{IsTerm}
@@ -28,7 +28,7 @@ use Rattle.tree_building.specs.Meaning.{PlainConclusion, PlainAfterTerm, an_equa
 use Rattle.tree_building.specs.EquationsMeaning.{first_premiss, equation_from}
 use Rattle.sentence_trees.specs.TermsSentences.{started}
 use Rattle.sentence_trees.specs.EquationsSentences.{Perhaps, not_there, is_there, IsEquationEnd, ends_without, ends_with_semicolon, IsConclusion, implied, behind_premiss, IsAfterTerm, right_side, only_conclusion}
-use Rattle.sentence_trees.proofs.Each.{Each}
+use Rattle.lotos_base.proofs.Each.{Each}
 use Rattle.sentence_trees.proofs.Lists.{is_of, shown}
 
 module _ (text : List ℕ) where
@@ -58,10 +58,10 @@ module _ (text : List ℕ) where
     equals : Token
     tokens_are : own ≡ premiss_tokens ++ arrow ∷ (left_tokens ++ equals ∷ right_tokens)
     premisses : Separated kind.COMMA (IsPremiss text) premiss_tokens (premiss ∷ conclusion.premisses)
-    is_arrow : IsOf kind.IMPLIES arrow
+    is_arrow : IsOfKind kind.IMPLIES arrow
     arrow_is : conclusion.arrow ≡ place_of arrow
     left_is : IsTerm text left_tokens conclusion.left
-    is_equals : IsOf kind.EQUALS equals
+    is_equals : IsOfKind kind.EQUALS equals
     right_is : IsTerm text right_tokens conclusion.right
 
   premissed : {own tokens : List Token} {premiss : WrittenPremiss} {conclusion : PlainConclusion} → IsPremiss text own premiss →

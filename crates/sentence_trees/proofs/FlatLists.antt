@@ -3,8 +3,8 @@ use Rattle.std.proofs.Common.{◌≡◌, ◌∙◌, ℕ, Bool, true, false, List
 use Rattle.std.specs.Prelude.{Some, option_map}
 use Rattle.lotos_lexer.specs.declared.tokens.Token.{Token}
 use Rattle.syntax_trees.specs.WrittenBehaviour.{WrittenBehaviour}
-use Rattle.syntax_trees.specs.Strength.{PlacedSign, strength_of, joined}
-use Rattle.syntax_trees.specs.Grouping.{Leftmost, closed, in_front, leftmost, grouped}
+use Rattle.syntax_trees.specs.Strength.{PlacedSign, strength_of, joined_by_sign}
+use Rattle.syntax_trees.specs.Grouping.{Leftmost, closed, sign_in_front, leftmost_grouping, grouped}
 use Rattle.lotos_rows.specs.Behaviours.{before_first, AreOperands}
 use Rattle.lotos_rows.specs.Behaviours as family
 
@@ -50,7 +50,7 @@ operands_fit (family.last_operand it) = refl
 operands_fit (family.before_sign it sign more) = operands_fit more
 
 leftmost_some : {A S : Type 0} (strength : S → ℕ) (join : S → A → A → A) (operands : List A) (signs : List S) → fits operands signs ≡ true →
-    (all : Leftmost A S) × (leftmost strength join operands signs ≡ Some all)
+    (all : Leftmost A S) × (leftmost_grouping strength join operands signs ≡ Some all)
 unfolding fits is_single
 leftmost_some strength join [] [] fit = absurd (cc)
 leftmost_some strength join [] (sign ∷ signs) fit = absurd (cc)
@@ -58,18 +58,18 @@ leftmost_some strength join (first ∷ []) [] fit = (_, refl)
 leftmost_some strength join (first ∷ second ∷ operands) [] fit = absurd (cc)
 leftmost_some strength join (first ∷ []) (sign ∷ signs) fit =
     let inner = leftmost_some strength join [] signs fit in (
-      record { first = first; waiting = in_front strength join sign inner.0.waiting inner.0.first },
-      ap (option_map (λ rest. record { first = first; waiting = in_front strength join sign rest.waiting rest.first })) inner.1,
+      record { first = first; waiting = sign_in_front strength join sign inner.0.waiting inner.0.first },
+      ap (option_map (λ rest. record { first = first; waiting = sign_in_front strength join sign rest.waiting rest.first })) inner.1,
     )
 leftmost_some strength join (first ∷ second ∷ operands) (sign ∷ signs) fit =
     let inner = leftmost_some strength join (second ∷ operands) signs fit in (
-      record { first = first; waiting = in_front strength join sign inner.0.waiting inner.0.first },
-      ap (option_map (λ rest. record { first = first; waiting = in_front strength join sign rest.waiting rest.first })) inner.1,
+      record { first = first; waiting = sign_in_front strength join sign inner.0.waiting inner.0.first },
+      ap (option_map (λ rest. record { first = first; waiting = sign_in_front strength join sign rest.waiting rest.first })) inner.1,
     )
 
 pub inside_of : (text : List ℕ) {tokens : List Token} {operands : List WrittenBehaviour} {signs : List PlacedSign} →
     AreOperands text tokens operands signs →
-    (inside : WrittenBehaviour) × (grouped strength_of joined operands signs ≡ Some inside)
+    (inside : WrittenBehaviour) × (grouped strength_of joined_by_sign operands signs ≡ Some inside)
 inside_of text {operands = operands} {signs = signs} them =
-    let all = leftmost_some strength_of joined operands signs (operands_fit them) in
-    (closed joined all.0.waiting all.0.first, ap (option_map (λ found. closed joined found.waiting found.first)) all.1)
+    let all = leftmost_some strength_of joined_by_sign operands signs (operands_fit them) in
+    (closed joined_by_sign all.0.waiting all.0.first, ap (option_map (λ found. closed joined_by_sign found.waiting found.first)) all.1)

@@ -5,14 +5,14 @@ use Rattle.std.proofs.lemmas.List.{append-nil, map-append}
 use Rattle.lotos_base.specs.WrittenTerm.{PlacedName, WrittenTerm, written}
 use Rattle.syntax_trees.specs.LeftGrouping.{IsGroupedLeft, only, at_last, grouped_left}
 use Rattle.lotos_rows.specs.Terms.{of_sort}
-use Rattle.tree_building.specs.TermsMeaning.{with_sorts}
+use Rattle.tree_building.specs.TermsMeaning.{with_written_sorts}
 
-pub with_no_sorts : (term : WrittenTerm) → with_sorts [] term ≡ term
+pub with_no_sorts : (term : WrittenTerm) → with_written_sorts [] term ≡ term
 with_no_sorts (written head arguments) =
     ap (λ sorts. written (record { place = head.place; name = head.name; form = head.form; sorts = sorts }) arguments)
     (append-nil head.sorts)
 
-pub with_one_sort : (sort : PlacedName) (term : WrittenTerm) → of_sort sort term ≡ with_sorts (sort ∷ []) term
+pub with_one_sort : (sort : PlacedName) (term : WrittenTerm) → of_sort sort term ≡ with_written_sorts (sort ∷ []) term
 with_one_sort sort (written head arguments) = refl
 
 -- the operands so far are grouped, and further ones follow

@@ -1,4 +1,3 @@
-pub mod Each
 pub mod Lists
 pub mod Grouping
 pub mod NamesRows

@@ -3,12 +3,12 @@ use Rattle.std.proofs.Common.{◌≡◌, ℕ, List, [], ◌∷◌, ◌++◌, sym
 use Rattle.std.specs.Prelude.{Some}
 use Rattle.std.proofs.lemmas.List.{append-nil}
 use Rattle.lotos_lexer.specs.declared.tokens.Token.{Token}
-use Rattle.lotos_rows.specs.Words.{IsOf, left_out, there, Separated, last, before_more, Loosely, last_loose, with_separator, without_separator, behind}
+use Rattle.lotos_rows.specs.Words.{IsOfKind, left_out, there, Separated, last, before_more, Loosely, last_loose, with_separator, without_separator, behind}
 use Rattle.tree_building.specs.Meaning.{Meaning}
 use Rattle.sentence_trees.specs.PartSentences.{As, as_one}
 use Rattle.sentence_trees.specs.NamesSentences.{Further, FurtherLoosely, none_further, further_behind, further_at_once}
 
-pub is_of : {kind : ℕ} (word : Token) → word.kind ≡ kind → IsOf kind word
+pub is_of : {kind : ℕ} (word : Token) → word.kind ≡ kind → IsOfKind kind word
 is_of word is = record { kind_is = is }
 
 -- the value that a row gives, of tokens that are the row's

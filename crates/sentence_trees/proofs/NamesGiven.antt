@@ -10,7 +10,7 @@ use Rattle.lotos_rows.specs.declared.row_names.RowName.TheVariants.{Names}
 use Rattle.ll_engine.specs.declared.symbol.Symbol.TheVariants.{Token as Tok, Part}
 use Rattle.sentence_trees.specs.PartSentences.{as_one}
 use Rattle.sentence_trees.specs.Sentences.{GivesMeaning}
-use Rattle.sentence_trees.proofs.Each.{Each}
+use Rattle.lotos_base.proofs.Each.{Each}
 
 module _ (text : List ℕ) where
   name_gives : GivesMeaning text (row_of (Names row.Name) names.NAME (Tok kind.NAME ∷ []))

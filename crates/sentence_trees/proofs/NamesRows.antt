@@ -14,17 +14,17 @@ use Rattle.sentence_trees.specs.Sentences.{KeepsParts}
 use Rattle.std.specs.Prelude.{flat_map}
 use Rattle.lotos_base.specs.WrittenTerm.{PlacedName}
 use Rattle.syntax_trees.specs.WrittenVariable.{WrittenVariable}
-use Rattle.lotos_rows.specs.Words.{IsOf, Optional, left_out, there, last, before_more, Behind, behind, between}
+use Rattle.lotos_rows.specs.Words.{IsOfKind, Optional, left_out, there, last, before_more, Behind, behind, between}
 use Rattle.lotos_rows.specs.Names.{IsName, AreNames, AreVariables, variables_of_sort, named}
 use Rattle.lotos_rows.specs.Names as family
 use Rattle.lotos_rows.specs.NamesRows.{names_rows}
 use Rattle.sentence_trees.specs.NamesSentences.{none_further, further_behind, further_at_once}
-use Rattle.sentence_trees.proofs.Each.{Each}
+use Rattle.lotos_base.proofs.Each.{Each}
 use Rattle.sentence_trees.proofs.Lists.{is_of, shown, joined, joined_loosely}
 
 module _ (text : List ℕ) where
   pub variables_joined : {own tokens : List Token} {colon sort : Token} (xs : List PlacedName) (more : List WrittenVariable) →
-      AreNames text own xs → IsOf kind.COLON colon → IsOf kind.NAME sort →
+      AreNames text own xs → IsOfKind kind.COLON colon → IsOfKind kind.NAME sort →
       Optional [] (Behind kind.COMMA (AreVariables text)) tokens more →
       AreVariables text (own ++ colon ∷ sort ∷ tokens) (variables_of_sort xs (named text sort) ++ more)
   variables_joined xs more names_are colon sort left_out = family.variables (last (family.of_sort names_are colon sort))

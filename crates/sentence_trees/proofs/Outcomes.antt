@@ -17,7 +17,7 @@ use Rattle.sentence_trees.specs.Reading.{node_limit, IsRead, IsFault, IsReadWith
 use Rattle.sentence_trees.specs.ReadingLaws.{HasOneOutcome, TextsHaveOneOutcome}
 use Rattle.sentence_trees.proofs.Blamed.{one_blamed}
 
-same_tokens : (all : Lexed) (some other : List Token) → all ≡ lexed.Tokens some → all ≡ lexed.Tokens other → some ≡ other
+pub same_tokens : (all : Lexed) (some other : List Token) → all ≡ lexed.Tokens some → all ≡ lexed.Tokens other → some ≡ other
 same_tokens all some other e f = let both : lexed.Tokens some ≡ lexed.Tokens other = sym e ∙ f in cc
 
 not_bad : (all : Lexed) (tokens : List Token) (place : Place) → all ≡ lexed.Tokens tokens → all ≡ lexed.BadByte place → ⊥

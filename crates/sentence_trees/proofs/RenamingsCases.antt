@@ -6,7 +6,7 @@ use Rattle.lotos_lexer.specs.declared.kinds.TheConstants as kind
 use Rattle.lotos_rows.specs.declared.renamings.TheConstants as renamings
 use Rattle.syntax_trees.specs.WrittenItem.{WrittenPair, WrittenPairs}
 use Rattle.lotos_rows.specs.Words.{Optional, left_out, there, Loosely, last_loose, with_separator, without_separator, Behind, behind}
-use Rattle.lotos_rows.specs.Renamings.{pair_for, IsSortPair, IsOperationPair, AreRenames}
+use Rattle.lotos_rows.specs.Renamings.{pair_of_names, IsSortPair, IsOperationPair, AreRenames}
 use Rattle.lotos_rows.specs.Renamings as family
 use Rattle.tree_building.specs.Meaning.{Meaning, some_pairs, both_pairs}
 use Rattle.sentence_trees.specs.Sentences.{Derived}
@@ -38,7 +38,7 @@ module _ (text : List ℕ) where
       D renamings.OPERATION_PAIRS (own ++ tokens) (some_pairs (pair ∷ more))
   operation_pair_before {tokens = tokens} {more = others}
       (family.operation_for {tokens = own} {rest = rest} {word = for_word} {given = new} {replaced = old} given word replaced) more =
-      subst (λ (l : List Token). D renamings.OPERATION_PAIRS l (some_pairs (pair_for new.name old.name ∷ others)))
+      subst (λ (l : List Token). D renamings.OPERATION_PAIRS l (some_pairs (pair_of_names new.name old.name ∷ others)))
       (sym (append_assoc own (for_word ∷ rest) tokens))
       (by_operation_pairs text (operation_derived text given) word (operation_derived text replaced) more refl)
 

@@ -11,7 +11,7 @@ use Rattle.lotos_rows.specs.declared.renamings.TheConstants as renamings
 use Rattle.lotos_rows.specs.declared.renamings.RenamingsRow.TheVariants as row
 use Rattle.lotos_rows.specs.declared.row_names.RowName.TheVariants.{Renamings}
 use Rattle.ll_engine.specs.declared.symbol.Symbol.TheVariants.{Token as Tok, Part}
-use Rattle.lotos_rows.specs.Words.{IsOf}
+use Rattle.lotos_rows.specs.Words.{IsOfKind}
 use Rattle.tree_building.specs.Meaning.{Meaning}
 use Rattle.tree_building.specs.RowMeaning.{renamings_row_means}
 use Rattle.sentence_trees.specs.Sentences.{Derived}
@@ -33,7 +33,7 @@ module _ (text : List ℕ) where
       D renamings.SORT_RENAMES ([]) value
   by_no_sort_renames given = derived_by text 77 (row_of (Renamings row.NoSortRenames) renamings.SORT_RENAMES ([])) refl nothing given
 
-  pub by_sort_renames : {t1 : Token} {o1 : List Token} {m1 value : Meaning} → IsOf kind.SORTNAMES t1 → D renamings.SORT_PAIRS o1 m1 →
+  pub by_sort_renames : {t1 : Token} {o1 : List Token} {m1 value : Meaning} → IsOfKind kind.SORTNAMES t1 → D renamings.SORT_PAIRS o1 m1 →
       renamings_row_means row.SortRenames None (m1 ∷ []) ≡ Some value → D renamings.SORT_RENAMES (t1 ∷ o1) value
   by_sort_renames {t1 = t1} {o1 = o1} {m1 = m1} {value = value} i1 d1 given =
       subst (λ (l : List Token). D renamings.SORT_RENAMES (t1 ∷ l) value) (append-nil o1)
@@ -41,7 +41,7 @@ module _ (text : List ℕ) where
       (row_of (Renamings row.SortRenames) renamings.SORT_RENAMES (Tok kind.SORTNAMES ∷ Part renamings.SORT_PAIRS ∷ [])) refl
       (token t1 i1.kind_is (part d1 nothing)) given)
 
-  pub by_sort_pairs : {o1 o2 o3 : List Token} {m1 m2 m3 value : Meaning} {t1 : Token} → D names.NAME o1 m1 → IsOf kind.FOR t1 →
+  pub by_sort_pairs : {o1 o2 o3 : List Token} {m1 m2 m3 value : Meaning} {t1 : Token} → D names.NAME o1 m1 → IsOfKind kind.FOR t1 →
       D names.NAME o2 m2 → D renamings.MORE_SORT_PAIRS o3 m3 → renamings_row_means row.SortPairs None (m1 ∷ m2 ∷ m3 ∷ []) ≡ Some value →
       D renamings.SORT_PAIRS (o1 ++ (t1 ∷ (o2 ++ o3))) value
   by_sort_pairs {o1 = o1} {o2 = o2} {o3 = o3} {m1 = m1} {m2 = m2} {m3 = m3} {value = value} {t1 = t1} d1 i1 d2 d3 given =
@@ -56,7 +56,7 @@ module _ (text : List ℕ) where
   by_no_more_sort_pairs given =
       derived_by text 80 (row_of (Renamings row.NoMoreSortPairs) renamings.MORE_SORT_PAIRS ([])) refl nothing given
 
-  pub by_more_sort_pairs_after_comma : {t1 : Token} {o1 : List Token} {m1 value : Meaning} → IsOf kind.COMMA t1 →
+  pub by_more_sort_pairs_after_comma : {t1 : Token} {o1 : List Token} {m1 value : Meaning} → IsOfKind kind.COMMA t1 →
       D renamings.SORT_PAIRS o1 m1 → renamings_row_means row.MoreSortPairsAfterComma None (m1 ∷ []) ≡ Some value →
       D renamings.MORE_SORT_PAIRS (t1 ∷ o1) value
   by_more_sort_pairs_after_comma {t1 = t1} {o1 = o1} {m1 = m1} {value = value} i1 d1 given =
@@ -77,7 +77,7 @@ module _ (text : List ℕ) where
   by_no_operation_renames given =
       derived_by text 83 (row_of (Renamings row.NoOperationRenames) renamings.OPERATION_RENAMES ([])) refl nothing given
 
-  pub by_operation_renames : {t1 : Token} {o1 : List Token} {m1 value : Meaning} → IsOf kind.OPNNAMES t1 →
+  pub by_operation_renames : {t1 : Token} {o1 : List Token} {m1 value : Meaning} → IsOfKind kind.OPNNAMES t1 →
       D renamings.OPERATION_PAIRS o1 m1 → renamings_row_means row.OperationRenames None (m1 ∷ []) ≡ Some value →
       D renamings.OPERATION_RENAMES (t1 ∷ o1) value
   by_operation_renames {t1 = t1} {o1 = o1} {m1 = m1} {value = value} i1 d1 given =
@@ -86,7 +86,8 @@ module _ (text : List ℕ) where
       (row_of (Renamings row.OperationRenames) renamings.OPERATION_RENAMES (Tok kind.OPNNAMES ∷ Part renamings.OPERATION_PAIRS ∷ []))
       refl (token t1 i1.kind_is (part d1 nothing)) given)
 
-  pub by_operation_pairs : {o1 o2 o3 : List Token} {m1 m2 m3 value : Meaning} {t1 : Token} → D names.OPERATION o1 m1 → IsOf kind.FOR t1 →
+  pub by_operation_pairs : {o1 o2 o3 : List Token} {m1 m2 m3 value : Meaning} {t1 : Token} → D names.OPERATION o1 m1
+      → IsOfKind kind.FOR t1 →
       D names.OPERATION o2 m2 → D renamings.MORE_OPERATION_PAIRS o3 m3 →
       renamings_row_means row.OperationPairs None (m1 ∷ m2 ∷ m3 ∷ []) ≡ Some value →
       D renamings.OPERATION_PAIRS (o1 ++ (t1 ∷ (o2 ++ o3))) value
@@ -102,7 +103,7 @@ module _ (text : List ℕ) where
   by_no_more_operation_pairs given =
       derived_by text 86 (row_of (Renamings row.NoMoreOperationPairs) renamings.MORE_OPERATION_PAIRS ([])) refl nothing given
 
-  pub by_more_operation_pairs_after_comma : {t1 : Token} {o1 : List Token} {m1 value : Meaning} → IsOf kind.COMMA t1 →
+  pub by_more_operation_pairs_after_comma : {t1 : Token} {o1 : List Token} {m1 value : Meaning} → IsOfKind kind.COMMA t1 →
       D renamings.OPERATION_PAIRS o1 m1 → renamings_row_means row.MoreOperationPairsAfterComma None (m1 ∷ []) ≡ Some value →
       D renamings.MORE_OPERATION_PAIRS (t1 ∷ o1) value
   by_more_operation_pairs_after_comma {t1 = t1} {o1 = o1} {m1 = m1} {value = value} i1 d1 given =

@@ -16,7 +16,7 @@ use Rattle.lotos_rows.specs.Names as names_family
 use Rattle.lotos_rows.specs.Renamings as family
 use Rattle.lotos_rows.specs.RenamingsRows.{renamings_rows}
 use Rattle.sentence_trees.specs.NamesSentences.{none_further, further_behind, further_at_once}
-use Rattle.sentence_trees.proofs.Each.{Each}
+use Rattle.lotos_base.proofs.Each.{Each}
 use Rattle.sentence_trees.proofs.Lists.{is_of, shown, joined_loosely}
 
 module _ (text : List ℕ) where

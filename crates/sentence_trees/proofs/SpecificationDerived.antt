@@ -11,7 +11,7 @@ use Rattle.lotos_rows.specs.declared.types.TheConstants as types
 use Rattle.lotos_rows.specs.declared.specification.SpecificationRow.TheVariants as row
 use Rattle.lotos_rows.specs.declared.row_names.RowName.TheVariants.{Specification}
 use Rattle.ll_engine.specs.declared.symbol.Symbol.TheVariants.{Token as Tok, Part}
-use Rattle.lotos_rows.specs.Words.{IsOf}
+use Rattle.lotos_rows.specs.Words.{IsOfKind}
 use Rattle.tree_building.specs.Meaning.{Meaning}
 use Rattle.tree_building.specs.RowMeaning.{specification_row_means}
 use Rattle.sentence_trees.specs.Sentences.{Derived}
@@ -31,13 +31,13 @@ module _ (text : List ℕ) where
       (derived_by text 147 (row_of (Specification row.Items) specification.ITEMS (Part types.ITEM ∷ Part specification.ITEMS ∷ []))
       refl (part d1 (part d2 nothing)) given)
 
-  pub by_behaviour_word : {t1 : Token} {value : Meaning} → IsOf kind.BEHAVIOUR t1 →
+  pub by_behaviour_word : {t1 : Token} {value : Meaning} → IsOfKind kind.BEHAVIOUR t1 →
       specification_row_means row.BehaviourWord None ([]) ≡ Some value → D specification.BEHAVIOUR_WORD (t1 ∷ []) value
   by_behaviour_word {t1 = t1} i1 given =
       derived_by text 148 (row_of (Specification row.BehaviourWord) specification.BEHAVIOUR_WORD (Tok kind.BEHAVIOUR ∷ [])) refl
       (token t1 i1.kind_is nothing) given
 
-  pub by_behavior_word : {t1 : Token} {value : Meaning} → IsOf kind.BEHAVIOR t1 →
+  pub by_behavior_word : {t1 : Token} {value : Meaning} → IsOfKind kind.BEHAVIOR t1 →
       specification_row_means row.BehaviorWord None ([]) ≡ Some value → D specification.BEHAVIOUR_WORD (t1 ∷ []) value
   by_behavior_word {t1 = t1} i1 given =
       derived_by text 149 (row_of (Specification row.BehaviorWord) specification.BEHAVIOUR_WORD (Tok kind.BEHAVIOR ∷ [])) refl

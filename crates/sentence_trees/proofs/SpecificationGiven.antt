@@ -11,7 +11,7 @@ use Rattle.lotos_rows.specs.declared.row_names.RowName.TheVariants.{Specificatio
 use Rattle.ll_engine.specs.declared.symbol.Symbol.TheVariants.{Token as Tok, Part}
 use Rattle.sentence_trees.specs.PartSentences.{as_one}
 use Rattle.sentence_trees.specs.Sentences.{GivesMeaning}
-use Rattle.sentence_trees.proofs.Each.{Each}
+use Rattle.lotos_base.proofs.Each.{Each}
 
 module _ (text : List ℕ) where
   no_items_gives : GivesMeaning text (row_of (Specification row.NoItems) specification.ITEMS [])

@@ -15,7 +15,7 @@ use Rattle.lotos_rows.specs.Words.{no_more, and_then}
 use Rattle.lotos_rows.specs.Starts as family
 use Rattle.lotos_rows.specs.SpecificationRows.{specification_rows}
 use Rattle.sentence_trees.specs.StartsSentences.{a_behaviour_word}
-use Rattle.sentence_trees.proofs.Each.{Each}
+use Rattle.lotos_base.proofs.Each.{Each}
 use Rattle.sentence_trees.proofs.Lists.{is_of, shown}
 
 module _ (text : List ℕ) where

@@ -15,7 +15,7 @@ use Rattle.lotos_rows.specs.declared.terms.TheConstants as terms
 use Rattle.lotos_rows.specs.declared.starts.StartsRow.TheVariants as row
 use Rattle.lotos_rows.specs.declared.row_names.RowName.TheVariants.{Starts}
 use Rattle.ll_engine.specs.declared.symbol.Symbol.TheVariants.{Token as Tok, Part}
-use Rattle.lotos_rows.specs.Words.{IsOf}
+use Rattle.lotos_rows.specs.Words.{IsOfKind}
 use Rattle.tree_building.specs.Meaning.{Meaning}
 use Rattle.tree_building.specs.RowMeaning.{starts_row_means}
 use Rattle.sentence_trees.specs.Sentences.{Derived}
@@ -25,9 +25,9 @@ module _ (text : List ℕ) where
   abbrev D : ℕ → List Token → Meaning → Type 0
   D = Derived text
 
-  pub by_spec : {t1 t2 : Token} {o1 o2 o3 o4 o5 : List Token} {m1 m2 m3 m4 m5 value : Meaning} → IsOf kind.SPECIFICATION t1 →
+  pub by_spec : {t1 t2 : Token} {o1 o2 o3 o4 o5 : List Token} {m1 m2 m3 m4 m5 value : Meaning} → IsOfKind kind.SPECIFICATION t1 →
       D definitions.HEADING o1 m1 → D specification.ITEMS o2 m2 → D specification.BEHAVIOUR_WORD o3 m3 → D behaviours.BEHAVIOUR o4 m4 →
-      D definitions.WHERE o5 m5 → IsOf kind.ENDSPEC t2 → starts_row_means row.Spec None (m1 ∷ m2 ∷ m3 ∷ m4 ∷ m5 ∷ []) ≡ Some value →
+      D definitions.WHERE o5 m5 → IsOfKind kind.ENDSPEC t2 → starts_row_means row.Spec None (m1 ∷ m2 ∷ m3 ∷ m4 ∷ m5 ∷ []) ≡ Some value →
       D starts.SPEC (t1 ∷ (o1 ++ (o2 ++ (o3 ++ (o4 ++ (o5 ++ (t2 ∷ []))))))) value
   by_spec {t1 = t1} {t2 = t2} i1 d1 d2 d3 d4 d5 i2 given =
       derived_by text 150
@@ -46,7 +46,7 @@ module _ (text : List ℕ) where
   by_no_order given = derived_by text 152 (row_of (Starts row.NoOrder) starts.ORDER ([])) refl nothing given
 
   pub by_order : {o1 o2 o3 o4 : List Token} {m1 m2 m3 m4 value : Meaning} {t1 : Token} → D names.OPERATION o1 m1 →
-      D starts.OPTIONAL_PROFILE o2 m2 → D starts.OPTIONAL_STATUS o3 m3 → IsOf kind.SEMICOLON t1 → D starts.ORDER o4 m4 →
+      D starts.OPTIONAL_PROFILE o2 m2 → D starts.OPTIONAL_STATUS o3 m3 → IsOfKind kind.SEMICOLON t1 → D starts.ORDER o4 m4 →
       starts_row_means row.Order None (m1 ∷ m2 ∷ m3 ∷ m4 ∷ []) ≡ Some value → D starts.ORDER (o1 ++ (o2 ++ (o3 ++ (t1 ∷ o4)))) value
   by_order {o1 = o1} {o2 = o2} {o3 = o3} {o4 = o4} {m1 = m1} {m2 = m2} {m3 = m3} {m4 = m4} {value = value} {t1 = t1}
       d1 d2 d3 i1 d4 given =

@@ -19,7 +19,7 @@ use Rattle.lotos_rows.specs.Words.{left_out, there, no_more, and_then}
 use Rattle.lotos_rows.specs.Starts as family
 use Rattle.lotos_rows.specs.StartsRows.{starts_rows}
 use Rattle.sentence_trees.specs.StartsSentences.{a_behaviour_word}
-use Rattle.sentence_trees.proofs.Each.{Each}
+use Rattle.lotos_base.proofs.Each.{Each}
 use Rattle.sentence_trees.proofs.BehavioursRows.{with_inside}
 use Rattle.sentence_trees.proofs.Lists.{is_of, shown}
 

@@ -6,13 +6,13 @@ use Rattle.lotos_lexer.specs.declared.tokens.Token.{Token}
 use Rattle.lotos_lexer.specs.declared.kinds.TheConstants as kind
 use Rattle.lotos_rows.specs.declared.terms.TheConstants as terms
 use Rattle.syntax_trees.specs.LeftGrouping.{IsGroupedLeft, grouped_left}
-use Rattle.lotos_rows.specs.Words.{IsOf}
+use Rattle.lotos_rows.specs.Words.{IsOfKind}
 use Rattle.lotos_rows.specs.Names.{named, place_of, IsOperationName}
 use Rattle.lotos_rows.specs.Names as names_family
 use Rattle.lotos_rows.specs.Terms.{applied, infix_term, of_sort, IsTerm, AreFactors, IsFactor, IsBase, AreTerms, AreArguments}
 use Rattle.lotos_rows.specs.Terms as family
 use Rattle.tree_building.specs.Meaning.{Meaning, a_term, some_names, some_factors, some_terms}
-use Rattle.tree_building.specs.TermsMeaning.{with_sorts}
+use Rattle.tree_building.specs.TermsMeaning.{with_written_sorts}
 use Rattle.sentence_trees.specs.Sentences.{Derived}
 use Rattle.sentence_trees.proofs.Grouping.{with_no_sorts, with_one_sort, grouped_one}
 use Rattle.sentence_trees.proofs.NamesDerived.{by_name}
@@ -94,7 +94,7 @@ module _ (text : List ℕ) where
   applied_from : {own arguments mark : List Token} {name : PlacedName} {found : List WrittenTerm} {sorts : List PlacedName} →
       IsOperationName text own name →
       D terms.ARGUMENTS arguments (some_terms found) → D terms.SORT_MARK mark (some_names sorts) →
-      TermDerived terms.FACTOR (own ++ (arguments ++ mark)) (with_sorts sorts (applied name found))
+      TermDerived terms.FACTOR (own ++ (arguments ++ mark)) (with_written_sorts sorts (applied name found))
   applied_from {arguments = arguments} {mark = mark} (names_family.word_name {name = name} is) found sorts =
       record {
         first = name;
@@ -121,9 +121,9 @@ module _ (text : List ℕ) where
       }
 
   bracketed_from : {own mark : List Token} {left right : Token} {term : WrittenTerm} {sorts : List PlacedName} →
-      IsOf kind.LEFT_PARENTHESIS left → TermDerived terms.TERM own term →
-      IsOf kind.RIGHT_PARENTHESIS right → D terms.SORT_MARK mark (some_names sorts) →
-      TermDerived terms.FACTOR (left ∷ (own ++ right ∷ mark)) (with_sorts sorts term)
+      IsOfKind kind.LEFT_PARENTHESIS left → TermDerived terms.TERM own term →
+      IsOfKind kind.RIGHT_PARENTHESIS right → D terms.SORT_MARK mark (some_names sorts) →
+      TermDerived terms.FACTOR (left ∷ (own ++ right ∷ mark)) (with_written_sorts sorts term)
   bracketed_from {own = own} {mark = mark} {left = left} {right = right} is_left it is_right sorts =
       record {
         first = left;
@@ -157,7 +157,7 @@ module _ (text : List ℕ) where
 
     base_derived : {own mark : List Token} {term : WrittenTerm} {sorts : List PlacedName} → IsBase text own term →
         D terms.SORT_MARK mark (some_names sorts) →
-        TermDerived terms.FACTOR (own ++ mark) (with_sorts sorts term)
+        TermDerived terms.FACTOR (own ++ mark) (with_written_sorts sorts term)
     base_derived (family.without_arguments name) sorts = applied_from name (by_no_arguments text refl) sorts
     base_derived {mark = mark}
         (family.with_arguments {tokens = own} {argument_tokens = found} {left = left} {right = right} name is_left arguments is_right)

@@ -11,7 +11,7 @@ use Rattle.lotos_rows.specs.declared.terms.TheConstants as terms
 use Rattle.lotos_rows.specs.declared.terms.TermsRow.TheVariants as row
 use Rattle.lotos_rows.specs.declared.row_names.RowName.TheVariants.{Terms}
 use Rattle.ll_engine.specs.declared.symbol.Symbol.TheVariants.{Token as Tok, Part}
-use Rattle.lotos_rows.specs.Words.{IsOf}
+use Rattle.lotos_rows.specs.Words.{IsOfKind}
 use Rattle.tree_building.specs.Meaning.{Meaning}
 use Rattle.tree_building.specs.RowMeaning.{terms_row_means}
 use Rattle.sentence_trees.specs.Sentences.{Derived}
@@ -49,8 +49,8 @@ module _ (text : List ℕ) where
       (row_of (Terms row.AppliedFactor) terms.FACTOR (Part names.OPERATION_NAME ∷ Part terms.ARGUMENTS ∷ Part terms.SORT_MARK ∷ []))
       refl (part d1 (part d2 (part d3 nothing))) given)
 
-  pub by_bracketed_factor : {t1 t2 : Token} {o1 o2 : List Token} {m1 m2 value : Meaning} → IsOf kind.LEFT_PARENTHESIS t1 →
-      D terms.TERM o1 m1 → IsOf kind.RIGHT_PARENTHESIS t2 → D terms.SORT_MARK o2 m2 →
+  pub by_bracketed_factor : {t1 t2 : Token} {o1 o2 : List Token} {m1 m2 value : Meaning} → IsOfKind kind.LEFT_PARENTHESIS t1 →
+      D terms.TERM o1 m1 → IsOfKind kind.RIGHT_PARENTHESIS t2 → D terms.SORT_MARK o2 m2 →
       terms_row_means row.BracketedFactor (Some t1) (m1 ∷ m2 ∷ []) ≡ Some value → D terms.FACTOR (t1 ∷ (o1 ++ (t2 ∷ o2))) value
   by_bracketed_factor {t1 = t1} {t2 = t2} {o1 = o1} {o2 = o2} {m1 = m1} {m2 = m2} {value = value} i1 d1 i2 d2 given =
       subst (λ (l : List Token). D terms.FACTOR (t1 ∷ (o1 ++ (t2 ∷ l))) value) (append-nil o2)
@@ -62,8 +62,8 @@ module _ (text : List ℕ) where
   pub by_no_arguments : {value : Meaning} → terms_row_means row.NoArguments None ([]) ≡ Some value → D terms.ARGUMENTS ([]) value
   by_no_arguments given = derived_by text 27 (row_of (Terms row.NoArguments) terms.ARGUMENTS ([])) refl nothing given
 
-  pub by_arguments : {t1 t2 : Token} {o1 : List Token} {m1 value : Meaning} → IsOf kind.LEFT_PARENTHESIS t1 → D terms.TERM_LIST o1 m1 →
-      IsOf kind.RIGHT_PARENTHESIS t2 → terms_row_means row.Arguments (Some t1) (m1 ∷ []) ≡ Some value →
+  pub by_arguments : {t1 t2 : Token} {o1 : List Token} {m1 value : Meaning} → IsOfKind kind.LEFT_PARENTHESIS t1 → D terms.TERM_LIST o1 m1 →
+      IsOfKind kind.RIGHT_PARENTHESIS t2 → terms_row_means row.Arguments (Some t1) (m1 ∷ []) ≡ Some value →
       D terms.ARGUMENTS (t1 ∷ (o1 ++ (t2 ∷ []))) value
   by_arguments {t1 = t1} {t2 = t2} i1 d1 i2 given =
       derived_by text 28
@@ -73,7 +73,7 @@ module _ (text : List ℕ) where
   pub by_no_sort_mark : {value : Meaning} → terms_row_means row.NoSortMark None ([]) ≡ Some value → D terms.SORT_MARK ([]) value
   by_no_sort_mark given = derived_by text 29 (row_of (Terms row.NoSortMark) terms.SORT_MARK ([])) refl nothing given
 
-  pub by_sort_mark : {t1 : Token} {o1 : List Token} {m1 value : Meaning} → IsOf kind.OF t1 → D names.NAME o1 m1 →
+  pub by_sort_mark : {t1 : Token} {o1 : List Token} {m1 value : Meaning} → IsOfKind kind.OF t1 → D names.NAME o1 m1 →
       terms_row_means row.SortMark None (m1 ∷ []) ≡ Some value → D terms.SORT_MARK (t1 ∷ o1) value
   by_sort_mark {t1 = t1} {o1 = o1} {m1 = m1} {value = value} i1 d1 given =
       subst (λ (l : List Token). D terms.SORT_MARK (t1 ∷ l) value) (append-nil o1)
@@ -90,7 +90,7 @@ module _ (text : List ℕ) where
   pub by_no_more_terms : {value : Meaning} → terms_row_means row.NoMoreTerms None ([]) ≡ Some value → D terms.MORE_TERMS ([]) value
   by_no_more_terms given = derived_by text 32 (row_of (Terms row.NoMoreTerms) terms.MORE_TERMS ([])) refl nothing given
 
-  pub by_more_terms : {t1 : Token} {o1 : List Token} {m1 value : Meaning} → IsOf kind.COMMA t1 → D terms.TERM_LIST o1 m1 →
+  pub by_more_terms : {t1 : Token} {o1 : List Token} {m1 value : Meaning} → IsOfKind kind.COMMA t1 → D terms.TERM_LIST o1 m1 →
       terms_row_means row.MoreTerms None (m1 ∷ []) ≡ Some value → D terms.MORE_TERMS (t1 ∷ o1) value
   by_more_terms {t1 = t1} {o1 = o1} {m1 = m1} {value = value} i1 d1 given =
       subst (λ (l : List Token). D terms.MORE_TERMS (t1 ∷ l) value) (append-nil o1)

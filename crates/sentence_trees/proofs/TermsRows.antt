@@ -20,18 +20,18 @@ use Rattle.lotos_rows.specs.Names.{named, IsOperationName}
 use Rattle.lotos_rows.specs.Names as names_family
 use Rattle.lotos_rows.specs.Terms.{applied, infix_term, of_sort, IsTerm, AreFactors, IsFactor, IsBase, AreTerms, AreArguments}
 use Rattle.lotos_rows.specs.Terms as family
-use Rattle.tree_building.specs.TermsMeaning.{with_sorts}
+use Rattle.tree_building.specs.TermsMeaning.{with_written_sorts}
 use Rattle.lotos_rows.specs.TermsRows.{terms_rows}
 use Rattle.sentence_trees.specs.TermsSentences.{Started, started, IsOperationAndFactor, operation_and_factor, IsSortMark, no_sort_mark, a_sort_mark}
-use Rattle.sentence_trees.proofs.Each.{Each}
+use Rattle.lotos_base.proofs.Each.{Each}
 use Rattle.sentence_trees.proofs.Grouping.{grouped_is, with_no_sorts, with_one_sort}
 use Rattle.sentence_trees.proofs.Lists.{is_of, shown}
 
 module _ (text : List ℕ) where
   marked_factor : {own mark : List Token} {term : WrittenTerm} {sorts : List PlacedName} → IsBase text own term →
-      IsSortMark text mark sorts → IsFactor text (own ++ mark) (with_sorts sorts term)
+      IsSortMark text mark sorts → IsFactor text (own ++ mark) (with_written_sorts sorts term)
   marked_factor {own = own} {term = term} base no_sort_mark =
-      subst (λ (l : List Token). IsFactor text l (with_sorts [] term)) (sym (append-nil own))
+      subst (λ (l : List Token). IsFactor text l (with_written_sorts [] term)) (sym (append-nil own))
       (subst (IsFactor text own) (sym (with_no_sorts term)) (family.without_sort base))
   marked_factor {own = own} {term = term} base (a_sort_mark {word = word} {sort = sort} is_word is_sort) =
       subst (IsFactor text (own ++ word ∷ sort ∷ [])) (with_one_sort (named text sort) term) (family.with_sort base is_word is_sort)
@@ -44,7 +44,8 @@ module _ (text : List ℕ) where
 
   applied_started : {own arguments mark : List Token} {name : PlacedName} {terms : List WrittenTerm} {sorts : List PlacedName} →
       IsOperationName text own name → AreArguments text arguments terms → IsSortMark text mark sorts →
-      Started (IsFactor text) ((own ++ arguments) ++ mark) (record { start = name.place; term = with_sorts sorts (applied name terms) })
+      Started (IsFactor text) ((own ++ arguments) ++ mark)
+      (record { start = name.place; term = with_written_sorts sorts (applied name terms) })
   applied_started (names_family.word_name is) terms mark = started (marked_factor (applied_base (names_family.word_name is) terms) mark)
   applied_started (names_family.digit_name is) terms mark = started (marked_factor (applied_base (names_family.digit_name is) terms) mark)
   applied_started (names_family.sign_name is) terms mark = started (marked_factor (applied_base (names_family.sign_name is) terms) mark)

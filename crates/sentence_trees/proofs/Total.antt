@@ -8,8 +8,8 @@ use Rattle.lotos_base.proofs.Tests.{list_all-at}
 use Rattle.ll_engine.specs.declared.symbol.Symbol.{Symbol}
 use Rattle.ll_engine.specs.declared.symbol.Symbol.TheVariants.{Token as Tok, Part}
 use Rattle.ll_engine.specs.Derivation.{Production, Forest, empty, leaf, node, DerivesSymbols, leaves}
-use Rattle.ll_engine.specs.Fold.{first_if, front_token, tree_begins_kept, in_front, folded}
-use Rattle.ll_engine.specs.Values.{StandForTokens, nothing, token, part, IsKept}
+use Rattle.ll_engine.specs.Fold.{first_if, front_token, tree_begins_kept, in_front, folded_trees}
+use Rattle.ll_engine.specs.Values.{StandForTokens, nothing, token, part, KeepsValues}
 use Rattle.ll_engine.proofs.Folding.{append_parts, halves, no_tokens}
 use Rattle.ll_engine.proofs.Values.{begin_alike}
 
@@ -22,7 +22,7 @@ abbrev pub stays_said : (ℕ → Bool) → Production → Bool
 stays_said said row = not (said row.left) || list_all (is_said_symbol said) row.right
 
 module _ {T A : Type 0} (value_of : ℕ → Option T → List A → Option A) (keeps : ℕ → Bool) (kind : T → ℕ) (rows : List Production)
-    (has : ℕ → List T → A → Type 0) (kept : IsKept value_of keeps kind rows has) (said : ℕ → Bool)
+    (has : ℕ → List T → A → Type 0) (kept : KeepsValues value_of keeps kind rows has) (said : ℕ → Bool)
     (stay : list_all (stays_said said) rows ≡ true)
     (gives : (number : ℕ) (row : Production) → slice_get rows number ≡ Some row → said row.left ≡ true →
     (tokens : List T) (values : List A) →
@@ -31,7 +31,7 @@ module _ {T A : Type 0} (value_of : ℕ → Option T → List A → Option A) (k
   -- the trees of symbols have values, and the symbols stand for their tokens
   record Valued (trees : Forest) (symbols : List Symbol) (own : List T) : Type 0 where
     values : List A
-    folds : folded value_of keeps trees own ≡ Some values
+    folds : folded_trees value_of keeps trees own ≡ Some values
     stands : StandForTokens kind has symbols own values
 
   valued_leaf : (t u : ℕ) (rest : Forest) (symbols : List Symbol) (own : List T) → t ≡ u → t ∷ leaves rest ≡ map kind own →
@@ -72,15 +72,15 @@ module _ {T A : Type 0} (value_of : ℕ → Option T → List A → Option A) (k
       let len : length h.front ≡ length (leaves below) = sym (length-map h.front kind) ∙ sym (ap length h.front_are) in
       let parts = append_parts h.front h.back own (length (leaves below)) len h.both in
       let own_value =
-      λ (l : List T). option_and_then (value_of r (first_if (tree_begins_kept keeps below) l)) (folded value_of keeps below l) in
+      λ (l : List T). option_and_then (value_of r (first_if (tree_begins_kept keeps below) l)) (folded_trees value_of keeps below l) in
       let value_is : own_value h.front ≡ Some given.0 =
       ap (option_and_then (value_of r (first_if (tree_begins_kept keeps below) h.front))) inner.folds
       ∙ ap (λ (test : Bool). value_of r (first_if test h.front) inner.values) (begin_alike keeps rows below d.0.right d.3) ∙ given.1 in
       record {
         values = given.0 ∷ others.values;
         folds =
-            ap (λ (l : List T). in_front (own_value l) (folded value_of keeps rest (drop (length (leaves below)) own))) parts.0
-            ∙ ap (λ (l : List T). in_front (own_value h.front) (folded value_of keeps rest l)) parts.1
+            ap (λ (l : List T). in_front (own_value l) (folded_trees value_of keeps rest (drop (length (leaves below)) own))) parts.0
+            ∙ ap (λ (l : List T). in_front (own_value h.front) (folded_trees value_of keeps rest l)) parts.1
             ∙ ap (in_front (own_value h.front)) others.folds
             ∙ ap (λ (o : Option A). in_front o (Some others.values)) value_is;
         stands = subst (λ (l : List T). StandForTokens kind has (Part p ∷ symbols) l (given.0 ∷ others.values)) (sym h.both)
@@ -90,10 +90,10 @@ module _ {T A : Type 0} (value_of : ℕ → Option T → List A → Option A) (k
   -- one part alone
   pub record HasMeaning (p : ℕ) (tree : Forest) (own : List T) : Type 0 where
     pub value : A
-    pub folds : folded value_of keeps tree own ≡ Some (value ∷ [])
+    pub folds : folded_trees value_of keeps tree own ≡ Some (value ∷ [])
 
   only_one : (p : ℕ) (tree : Forest) (own : List T) (values : List A) → StandForTokens kind has (Part p ∷ []) own values →
-      folded value_of keeps tree own ≡ Some values →
+      folded_trees value_of keeps tree own ≡ Some values →
       HasMeaning p tree own
   only_one p tree own values (part {value = value} here nothing) folds = record { value = value; folds = folds }
 

@@ -13,7 +13,7 @@ use Rattle.lotos_rows.specs.declared.types.TheConstants as types
 use Rattle.lotos_rows.specs.declared.types.TypesRow.TheVariants as row
 use Rattle.lotos_rows.specs.declared.row_names.RowName.TheVariants.{Types}
 use Rattle.ll_engine.specs.declared.symbol.Symbol.TheVariants.{Token as Tok, Part}
-use Rattle.lotos_rows.specs.Words.{IsOf}
+use Rattle.lotos_rows.specs.Words.{IsOfKind}
 use Rattle.tree_building.specs.Meaning.{Meaning}
 use Rattle.tree_building.specs.RowMeaning.{types_row_means}
 use Rattle.sentence_trees.specs.Sentences.{Derived}
@@ -23,14 +23,15 @@ module _ (text : List ℕ) where
   abbrev D : ℕ → List Token → Meaning → Type 0
   D = Derived text
 
-  pub by_library_item : {t1 t2 : Token} {o1 : List Token} {m1 value : Meaning} → IsOf kind.LIBRARY t1 → D names.NAMES o1 m1 →
-      IsOf kind.ENDLIB t2 → types_row_means row.LibraryItem (Some t1) (m1 ∷ []) ≡ Some value → D types.ITEM (t1 ∷ (o1 ++ (t2 ∷ []))) value
+  pub by_library_item : {t1 t2 : Token} {o1 : List Token} {m1 value : Meaning} → IsOfKind kind.LIBRARY t1 → D names.NAMES o1 m1 →
+      IsOfKind kind.ENDLIB t2 → types_row_means row.LibraryItem (Some t1) (m1 ∷ []) ≡ Some value
+      → D types.ITEM (t1 ∷ (o1 ++ (t2 ∷ []))) value
   by_library_item {t1 = t1} {t2 = t2} i1 d1 i2 given =
       derived_by text 34 (row_of (Types row.LibraryItem) types.ITEM (Tok kind.LIBRARY ∷ Part names.NAMES ∷ Tok kind.ENDLIB ∷ [])) refl
       (token t1 i1.kind_is (part d1 (token t2 i2.kind_is nothing))) given
 
-  pub by_type_item : {t1 t2 t3 : Token} {o1 o2 : List Token} {m1 m2 value : Meaning} → IsOf kind.TYPE t1 → D names.NAME o1 m1 →
-      IsOf kind.IS t2 → D types.BODY o2 m2 → IsOf kind.ENDTYPE t3 → types_row_means row.TypeItem None (m1 ∷ m2 ∷ []) ≡ Some value →
+  pub by_type_item : {t1 t2 t3 : Token} {o1 o2 : List Token} {m1 m2 value : Meaning} → IsOfKind kind.TYPE t1 → D names.NAME o1 m1 →
+      IsOfKind kind.IS t2 → D types.BODY o2 m2 → IsOfKind kind.ENDTYPE t3 → types_row_means row.TypeItem None (m1 ∷ m2 ∷ []) ≡ Some value →
       D types.ITEM (t1 ∷ (o1 ++ (t2 ∷ (o2 ++ (t3 ∷ []))))) value
   by_type_item {t1 = t1} {t2 = t2} {t3 = t3} i1 d1 i2 d2 i3 given =
       derived_by text 35
@@ -50,15 +51,16 @@ module _ (text : List ℕ) where
       subst (λ (l : List Token). D types.BODY (l) value) (append-nil o1)
       (derived_by text 37 (row_of (Types row.SectionsBody) types.BODY (Part types.SECTIONS ∷ [])) refl (part d1 nothing) given)
 
-  pub by_renaming : {t1 : Token} {o1 : List Token} {m1 value : Meaning} → IsOf kind.RENAMEDBY t1 → D renamings.RENAMES o1 m1 →
+  pub by_renaming : {t1 : Token} {o1 : List Token} {m1 value : Meaning} → IsOfKind kind.RENAMEDBY t1 → D renamings.RENAMES o1 m1 →
       types_row_means row.Renaming None (m1 ∷ []) ≡ Some value → D types.AFTER_BASE (t1 ∷ o1) value
   by_renaming {t1 = t1} {o1 = o1} {m1 = m1} {value = value} i1 d1 given =
       subst (λ (l : List Token). D types.AFTER_BASE (t1 ∷ l) value) (append-nil o1)
       (derived_by text 38 (row_of (Types row.Renaming) types.AFTER_BASE (Tok kind.RENAMEDBY ∷ Part renamings.RENAMES ∷ [])) refl
       (token t1 i1.kind_is (part d1 nothing)) given)
 
-  pub by_actualisation : {t1 t2 : Token} {o1 o2 : List Token} {m1 m2 value : Meaning} → IsOf kind.ACTUALIZEDBY t1 → D names.NAMES o1 m1 →
-      IsOf kind.USING t2 → D renamings.RENAMES o2 m2 → types_row_means row.Actualisation None (m1 ∷ m2 ∷ []) ≡ Some value →
+  pub by_actualisation : {t1 t2 : Token} {o1 o2 : List Token} {m1 m2 value : Meaning} → IsOfKind kind.ACTUALIZEDBY t1
+      → D names.NAMES o1 m1 →
+      IsOfKind kind.USING t2 → D renamings.RENAMES o2 m2 → types_row_means row.Actualisation None (m1 ∷ m2 ∷ []) ≡ Some value →
       D types.AFTER_BASE (t1 ∷ (o1 ++ (t2 ∷ o2))) value
   by_actualisation {t1 = t1} {t2 = t2} {o1 = o1} {o2 = o2} {m1 = m1} {m2 = m2} {value = value} i1 d1 i2 d2 given =
       subst (λ (l : List Token). D types.AFTER_BASE (t1 ∷ (o1 ++ (t2 ∷ l))) value) (append-nil o2)
@@ -89,7 +91,7 @@ module _ (text : List ℕ) where
   pub by_no_formal_sorts : {value : Meaning} → types_row_means row.NoFormalSorts None ([]) ≡ Some value → D types.FORMAL_SORTS ([]) value
   by_no_formal_sorts given = derived_by text 42 (row_of (Types row.NoFormalSorts) types.FORMAL_SORTS ([])) refl nothing given
 
-  pub by_formal_sorts : {t1 : Token} {o1 : List Token} {m1 value : Meaning} → IsOf kind.FORMALSORTS t1 → D names.LOOSE_NAMES o1 m1 →
+  pub by_formal_sorts : {t1 : Token} {o1 : List Token} {m1 value : Meaning} → IsOfKind kind.FORMALSORTS t1 → D names.LOOSE_NAMES o1 m1 →
       types_row_means row.FormalSorts None (m1 ∷ []) ≡ Some value → D types.FORMAL_SORTS (t1 ∷ o1) value
   by_formal_sorts {t1 = t1} {o1 = o1} {m1 = m1} {value = value} i1 d1 given =
       subst (λ (l : List Token). D types.FORMAL_SORTS (t1 ∷ l) value) (append-nil o1)
@@ -100,7 +102,7 @@ module _ (text : List ℕ) where
       D types.FORMAL_OPERATIONS ([]) value
   by_no_formal_operations given = derived_by text 44 (row_of (Types row.NoFormalOperations) types.FORMAL_OPERATIONS ([])) refl nothing given
 
-  pub by_formal_operations : {t1 : Token} {o1 : List Token} {m1 value : Meaning} → IsOf kind.FORMALOPNS t1 →
+  pub by_formal_operations : {t1 : Token} {o1 : List Token} {m1 value : Meaning} → IsOfKind kind.FORMALOPNS t1 →
       D types.OPERATION_LINES o1 m1 → types_row_means row.FormalOperations None (m1 ∷ []) ≡ Some value →
       D types.FORMAL_OPERATIONS (t1 ∷ o1) value
   by_formal_operations {t1 = t1} {o1 = o1} {m1 = m1} {value = value} i1 d1 given =
@@ -113,7 +115,7 @@ module _ (text : List ℕ) where
       D types.FORMAL_EQUATIONS ([]) value
   by_no_formal_equations given = derived_by text 46 (row_of (Types row.NoFormalEquations) types.FORMAL_EQUATIONS ([])) refl nothing given
 
-  pub by_formal_equations : {t1 : Token} {o1 o2 : List Token} {m1 m2 value : Meaning} → IsOf kind.FORMALEQNS t1 →
+  pub by_formal_equations : {t1 : Token} {o1 o2 : List Token} {m1 m2 value : Meaning} → IsOfKind kind.FORMALEQNS t1 →
       D equations.VARIABLES_FOR_ALL o1 m1 → D equations.EQUATION_GROUPS o2 m2 →
       types_row_means row.FormalEquations None (m1 ∷ m2 ∷ []) ≡ Some value → D types.FORMAL_EQUATIONS (t1 ∷ (o1 ++ o2)) value
   by_formal_equations {t1 = t1} {o1 = o1} {o2 = o2} {m1 = m1} {m2 = m2} {value = value} i1 d1 d2 given =
@@ -126,7 +128,7 @@ module _ (text : List ℕ) where
   pub by_no_sorts : {value : Meaning} → types_row_means row.NoSorts None ([]) ≡ Some value → D types.SORTS ([]) value
   by_no_sorts given = derived_by text 48 (row_of (Types row.NoSorts) types.SORTS ([])) refl nothing given
 
-  pub by_sorts : {t1 : Token} {o1 : List Token} {m1 value : Meaning} → IsOf kind.SORTS t1 → D names.LOOSE_NAMES o1 m1 →
+  pub by_sorts : {t1 : Token} {o1 : List Token} {m1 value : Meaning} → IsOfKind kind.SORTS t1 → D names.LOOSE_NAMES o1 m1 →
       types_row_means row.Sorts None (m1 ∷ []) ≡ Some value → D types.SORTS (t1 ∷ o1) value
   by_sorts {t1 = t1} {o1 = o1} {m1 = m1} {value = value} i1 d1 given =
       subst (λ (l : List Token). D types.SORTS (t1 ∷ l) value) (append-nil o1)
@@ -136,7 +138,7 @@ module _ (text : List ℕ) where
   pub by_no_operations : {value : Meaning} → types_row_means row.NoOperations None ([]) ≡ Some value → D types.OPERATIONS ([]) value
   by_no_operations given = derived_by text 50 (row_of (Types row.NoOperations) types.OPERATIONS ([])) refl nothing given
 
-  pub by_operations : {t1 : Token} {o1 : List Token} {m1 value : Meaning} → IsOf kind.OPNS t1 → D types.OPERATION_LINES o1 m1 →
+  pub by_operations : {t1 : Token} {o1 : List Token} {m1 value : Meaning} → IsOfKind kind.OPNS t1 → D types.OPERATION_LINES o1 m1 →
       types_row_means row.Operations None (m1 ∷ []) ≡ Some value → D types.OPERATIONS (t1 ∷ o1) value
   by_operations {t1 = t1} {o1 = o1} {m1 = m1} {value = value} i1 d1 given =
       subst (λ (l : List Token). D types.OPERATIONS (t1 ∷ l) value) (append-nil o1)
@@ -146,7 +148,8 @@ module _ (text : List ℕ) where
   pub by_no_equations : {value : Meaning} → types_row_means row.NoEquations None ([]) ≡ Some value → D types.EQUATIONS ([]) value
   by_no_equations given = derived_by text 52 (row_of (Types row.NoEquations) types.EQUATIONS ([])) refl nothing given
 
-  pub by_equations : {t1 : Token} {o1 o2 : List Token} {m1 m2 value : Meaning} → IsOf kind.EQNS t1 → D equations.VARIABLES_FOR_ALL o1 m1 →
+  pub by_equations : {t1 : Token} {o1 o2 : List Token} {m1 m2 value : Meaning} → IsOfKind kind.EQNS t1
+      → D equations.VARIABLES_FOR_ALL o1 m1 →
       D equations.EQUATION_GROUPS o2 m2 → types_row_means row.Equations None (m1 ∷ m2 ∷ []) ≡ Some value →
       D types.EQUATIONS (t1 ∷ (o1 ++ o2)) value
   by_equations {t1 = t1} {o1 = o1} {o2 = o2} {m1 = m1} {m2 = m2} {value = value} i1 d1 d2 given =
@@ -175,7 +178,7 @@ module _ (text : List ℕ) where
       D types.MORE_OPERATIONS ([]) value
   by_no_more_operations given = derived_by text 56 (row_of (Types row.NoMoreOperations) types.MORE_OPERATIONS ([])) refl nothing given
 
-  pub by_more_operations : {t1 : Token} {o1 o2 : List Token} {m1 m2 value : Meaning} → IsOf kind.COMMA t1 → D names.OPERATION o1 m1 →
+  pub by_more_operations : {t1 : Token} {o1 o2 : List Token} {m1 m2 value : Meaning} → IsOfKind kind.COMMA t1 → D names.OPERATION o1 m1 →
       D types.MORE_OPERATIONS o2 m2 → types_row_means row.MoreOperations None (m1 ∷ m2 ∷ []) ≡ Some value →
       D types.MORE_OPERATIONS (t1 ∷ (o1 ++ o2)) value
   by_more_operations {t1 = t1} {o1 = o1} {o2 = o2} {m1 = m1} {m2 = m2} {value = value} i1 d1 d2 given =

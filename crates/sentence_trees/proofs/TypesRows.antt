@@ -15,7 +15,7 @@ use Rattle.ll_engine.specs.declared.symbol.Symbol.TheVariants.{Token as Tok, Par
 use Rattle.sentence_trees.specs.PartSentences.{as_one}
 use Rattle.sentence_trees.specs.Sentences.{KeepsParts}
 use Rattle.syntax_trees.specs.WrittenItem.{WrittenOperation}
-use Rattle.lotos_rows.specs.Words.{IsOf, left_out, there, no_more, and_then, behind}
+use Rattle.lotos_rows.specs.Words.{IsOfKind, left_out, there, no_more, and_then, behind}
 use Rattle.lotos_rows.specs.Names.{named, NamedOperation, IsWrittenOperation, PlacedProfile, IsProfile}
 use Rattle.lotos_rows.specs.Names as names_family
 use Rattle.lotos_rows.specs.Equations as equations_family
@@ -26,11 +26,11 @@ use Rattle.tree_building.specs.Meaning.{PlainAfterBase}
 use Rattle.tree_building.specs.TypesMeaning.{body_from}
 use Rattle.sentence_trees.specs.NamesSentences.{Further}
 use Rattle.sentence_trees.specs.TypesSentences.{IsAfterBase, renaming_behind, actualising_behind, extending_behind}
-use Rattle.sentence_trees.proofs.Each.{Each}
+use Rattle.lotos_base.proofs.Each.{Each}
 use Rattle.sentence_trees.proofs.Lists.{is_of, shown, joined}
 
 module _ (text : List ℕ) where
-  body_named : {base : Token} {tokens : List Token} {after : PlainAfterBase} → IsOf kind.NAME base → IsAfterBase text tokens after →
+  body_named : {base : Token} {tokens : List Token} {after : PlainAfterBase} → IsOfKind kind.NAME base → IsAfterBase text tokens after →
       IsTypeBody text (base ∷ tokens) (body_from (named text base) after)
   body_named base (renaming_behind word pairs) = family.renaming base word pairs
   body_named base (actualising_behind word actuals using pairs) = family.actualising base word actuals using pairs

@@ -6,9 +6,7 @@ use Rattle.std.proofs.lemmas.List.{length-map, take-map}
 use Rattle.ll_engine.specs.Language.{ContextFree, IsSentence, IsViable, IsUnexpectedAt}
 use Rattle.lotos_lexer.specs.declared.kinds.TheConstants.{COUNT}
 use Rattle.lotos_lexer.specs.declared.tokens.Token.{Token}
-use Rattle.lotos_lexer.specs.declared.tokens.LexFault.{LexFault}
 use Rattle.lotos_lexer.specs.declared.tokens.LexFault.TheVariants as lexical
-use Rattle.lotos_lexer.specs.Tokens.{IsLexFaultOf, tokens_of}
 use Rattle.lotos_rows.specs.declared.starts.TheConstants as starts
 use Rattle.lotos_rows.specs.Rows.{grammar_from}
 use Rattle.lotos_rows.specs.Starts.{IsWrittenSpecification, AreItems, AreOrderItems, AreOptionalTerms}
@@ -21,8 +19,7 @@ use Rattle.sentence_trees.specs.declared.fault.ReadFault.TheVariants.{TooLong, B
 use Rattle.sentence_trees.specs.declared.kind.TextKind.{TextKind}
 use Rattle.sentence_trees.specs.declared.kind.TextKind.TheVariants.{Specification, Types, Order, Terms}
 use Rattle.sentence_trees.specs.Blame.{BeginsSomeText, IsBlamed}
-use Rattle.sentence_trees.specs.Derived.{IsUnderived, start_of}
-use Rattle.sentence_trees.specs.LexedFault.{fault_of}
+use Rattle.sentence_trees.specs.Derived.{IsUnderived, start_part_of}
 use Rattle.sentence_trees.specs.Reading.{IsFault, IsFaultAs, nodes_of_items, nodes_of_order}
 
 module _ {A : Type 0} (g : ContextFree) (one : List Token → A → Type 0)
@@ -56,7 +53,7 @@ module _ {A : Type 0} (g : ContextFree) (one : List Token → A → Type 0)
   faulty nodes start number text (TooDeep place) e is = absurd is
   faulty nodes start number text NoMemory e is = tt
 
-pub underived : (kind : TextKind) (number : ℕ) (text : List ℕ) (fault : ReadFault) → IsUnderived (start_of kind) number text fault →
+pub underived : (kind : TextKind) (number : ℕ) (text : List ℕ) (fault : ReadFault) → IsUnderived (start_part_of kind) number text fault →
     IsFaultAs kind number text fault
 underived Specification number text fault is =
     faulty (grammar_from starts.SPEC) (IsWrittenSpecification text) (rows_begin.specification text) (rows_have.specification text)
@@ -70,13 +67,6 @@ underived Order number text fault is =
 underived Terms number text fault is =
     faulty (grammar_from starts.TERMS) (AreOptionalTerms text) (rows_begin.terms text) (rows_have.terms text) nodes_of_terms starts.TERMS
     number text fault refl is
-
--- a lexical fault is one of the derivation
-pub lexical_underived : (start number : ℕ) (text : List ℕ) (fault : LexFault) → IsLexFaultOf (tokens_of number text) fault →
-    IsUnderived start number text (fault_of fault)
-lexical_underived start number text (lexical.BadByte place) is = is
-lexical_underived start number text (lexical.OpenComment place) is = is
-lexical_underived start number text lexical.NoMemory is = tt
 
 -- the grammar has a token for each kind
 tokens_of_grammar : (start : ℕ) → (grammar_from start).tokens ≡ COUNT

@@ -6,7 +6,7 @@ use Rattle.ll_engine.specs.Prediction.{IsPredictive}
 use Rattle.ll_engine.specs.View.{is_well_formed}
 use Rattle.ll_engine.proofs.KeptSets.{predictive_after}
 use Rattle.ll_engine.proofs.Uniqueness.{one_tree}
-use Rattle.ll_engine.specs.Fold.{folded}
+use Rattle.ll_engine.specs.Fold.{folded_trees}
 use Rattle.lotos_lexer.specs.declared.tokens.Token.{Token}
 use Rattle.lotos_rows.specs.declared.starts.TheConstants as starts
 use Rattle.lotos_rows.specs.Kept.{is_kept_kind}
@@ -45,7 +45,7 @@ one_meaning text start tokens some other decided first second =
     let same : first.0 ≡ second.0 =
     one_tree (grammar_from start) decided.well_formed decided.predictive first.0 second.0 first.1 second.1 (first.2 ∙ sym second.2) in
     let both : Some (some ∷ []) ≡ Some (other ∷ []) =
-    sym first.3 ∙ ap (λ (tree : Forest). folded (numbered_row_means text) is_kept_kind tree tokens) same ∙ second.3 in
+    sym first.3 ∙ ap (λ (tree : Forest). folded_trees (numbered_row_means text) is_kept_kind tree tokens) same ∙ second.3 in
     cc
 
 pub unambiguous : TextsAreUnambiguous

@@ -8,11 +8,11 @@ use Rattle.syntax_trees.specs.WrittenVariable.{WrittenVariable}
 use Rattle.syntax_trees.specs.WrittenEquation.{WrittenPremiss}
 use Rattle.syntax_trees.specs.WrittenBehaviour.{WrittenGateChoice, WrittenOffer, WrittenBehaviour}
 use Rattle.syntax_trees.specs.Strength.{PlacedSign}
-use Rattle.lotos_rows.specs.Words.{IsOf, Optional, Separated, Behind, Between}
+use Rattle.lotos_rows.specs.Words.{IsOfKind, Optional, Separated, Behind, Between}
 use Rattle.lotos_rows.specs.Names.{named, AreWrittenGates, AreOptionalGates, AreVariables}
 use Rattle.lotos_rows.specs.Terms.{AreArguments}
 use Rattle.lotos_rows.specs.Equations.{IsPremiss}
-use Rattle.lotos_rows.specs.Behaviours.{IsLetDeclaration, AreGateChoices, IsWrittenOffer, IsWrittenExitValue, IsParallelSign, IsSign, AreOperands, IsBehaviour}
+use Rattle.lotos_rows.specs.Behaviours.{IsLetDeclaration, AreGateChoices, IsWrittenOffer, IsWrittenExitValue, IsParallelSign, IsSign, AreOperands, IsBehaviourText}
 use Rattle.tree_building.specs.Meaning.{Meaning, PlainFlat, PlainActionEnd, some_variables, some_operands, an_action, a_call, some_offers, some_exit_values, some_lets, some_gate_choices, a_value_choice, a_gate_choice, a_behaviour, a_sign}
 use Rattle.sentence_trees.specs.PartSentences.{As, choose}
 use Rattle.sentence_trees.specs.NamesSentences.{Further}
@@ -34,16 +34,16 @@ pub data IsAfterOffer (text : List ℕ) : List Token → PlainActionEnd → Type
       IsAfterOffer text rest end →
       IsAfterOffer text (tokens ++ rest) (record { offers = offers ++ end.offers; test = end.test; behind = end.behind })
   with_selection : {left right semicolon : Token} {test_tokens tokens : List Token} {test : WrittenPremiss} {flat : PlainFlat} →
-      IsOf LEFT_BRACKET left →
-      IsPremiss text test_tokens test → IsOf RIGHT_BRACKET right → IsOf SEMICOLON semicolon → IsFlatList text tokens flat →
+      IsOfKind LEFT_BRACKET left →
+      IsPremiss text test_tokens test → IsOfKind RIGHT_BRACKET right → IsOfKind SEMICOLON semicolon → IsFlatList text tokens flat →
       IsAfterOffer text (left ∷ (test_tokens ++ right ∷ semicolon ∷ tokens)) (record { offers = []; test = Some test; behind = flat })
-  without_selection : {semicolon : Token} {tokens : List Token} {flat : PlainFlat} → IsOf SEMICOLON semicolon
+  without_selection : {semicolon : Token} {tokens : List Token} {flat : PlainFlat} → IsOfKind SEMICOLON semicolon
       → IsFlatList text tokens flat →
       IsAfterOffer text (semicolon ∷ tokens) (record { offers = []; test = None; behind = flat })
 
 -- what stands behind a name at the start of a behaviour
 pub data IsAfterName (text : List ℕ) : List Token → Meaning → Type 0 where
-  acts_at_once : {semicolon : Token} {tokens : List Token} {flat : PlainFlat} → IsOf SEMICOLON semicolon → IsFlatList text tokens flat →
+  acts_at_once : {semicolon : Token} {tokens : List Token} {flat : PlainFlat} → IsOfKind SEMICOLON semicolon → IsFlatList text tokens flat →
       IsAfterName text (semicolon ∷ tokens) (an_action (record { offers = []; test = None; behind = flat }))
   acts_with_offers : {tokens rest : List Token} {offers : List WrittenOffer} {end : PlainActionEnd} → IsWrittenOffer text tokens offers →
       IsAfterOffer text rest end →
@@ -54,18 +54,18 @@ pub data IsAfterName (text : List ℕ) : List Token → Meaning → Type 0 where
 
 -- a behaviour that is chosen
 abbrev pub IsChosenBehaviour : List ℕ → List Token → WrittenBehaviour → Type 0
-IsChosenBehaviour text = Behind CHOICE_SIGN (IsBehaviour text)
+IsChosenBehaviour text = Behind CHOICE_SIGN (IsBehaviourText text)
 
 -- what stands behind the first names of a `choice`
 pub data IsAfterChoice (text : List ℕ) : List Token → Meaning → Type 0 where
   of_values : {colon sort : Token} {more_tokens tokens : List Token} {more : List WrittenVariable} {inside : WrittenBehaviour} →
-      IsOf COLON colon → IsOf NAME sort →
+      IsOfKind COLON colon → IsOfKind NAME sort →
       Optional [] (Behind COMMA (AreVariables text)) more_tokens more → IsChosenBehaviour text tokens inside →
       IsAfterChoice text (colon ∷ sort ∷ (more_tokens ++ tokens))
       (a_value_choice (record { sort = named text sort; more = more; inside = inside }))
   of_gates : {word : Token} {gate_tokens more_tokens tokens : List Token} {gates : List PlacedName} {more : List WrittenGateChoice}
       {inside : WrittenBehaviour} →
-      IsOf IN word → AreWrittenGates text gate_tokens gates → Optional [] (Behind COMMA (AreGateChoices text)) more_tokens more →
+      IsOfKind IN word → AreWrittenGates text gate_tokens gates → Optional [] (Behind COMMA (AreGateChoices text)) more_tokens more →
       IsChosenBehaviour text tokens inside →
       IsAfterChoice text (word ∷ (gate_tokens ++ (more_tokens ++ tokens)))
       (a_gate_choice (record { among = gates; more = more; inside = inside }))

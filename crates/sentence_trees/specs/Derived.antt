@@ -15,11 +15,11 @@ use Rattle.sentence_trees.specs.declared.derivations.Derived as declared
 use Rattle.sentence_trees.specs.Blame.{blamed_place}
 
 -- the part that derives the texts of a kind
-abbrev pub start_of : TextKind → ℕ
-start_of Specification = starts.SPEC
-start_of Types = starts.TYPETEXT
-start_of Order = starts.ORDER
-start_of Terms = starts.TERMS
+abbrev pub start_part_of : TextKind → ℕ
+start_part_of Specification = starts.SPEC
+start_part_of Types = starts.TYPETEXT
+start_part_of Order = starts.ORDER
+start_part_of Terms = starts.TERMS
 
 -- the text is cut into the tokens, which the rows derive
 pub record IsDerived (start number : ℕ) (text : List ℕ) (derived : declared.Derived) : Type 0 where

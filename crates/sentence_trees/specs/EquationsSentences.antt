@@ -5,7 +5,7 @@ use Rattle.lotos_lexer.specs.declared.kinds.TheConstants.{COMMA, SEMICOLON, EQUA
 use Rattle.lotos_lexer.specs.declared.tokens.Token.{Token}
 use Rattle.lotos_rows.specs.declared.equations.TheConstants as equations
 use Rattle.syntax_trees.specs.WrittenEquation.{WrittenPremiss, WrittenEquation}
-use Rattle.lotos_rows.specs.Words.{IsOf, Optional, Many, Behind}
+use Rattle.lotos_rows.specs.Words.{IsOfKind, Optional, Many, Behind}
 use Rattle.lotos_rows.specs.Names.{place_of}
 use Rattle.lotos_rows.specs.Terms.{IsTerm}
 use Rattle.lotos_rows.specs.Equations.{IsPremiss, IsWrittenEquation, IsEquationList, AreForAll, IsEquationGroup}
@@ -21,23 +21,23 @@ pub data Perhaps {A : Type 0} (one : List Token → A → Type 0) : List Token �
 pub data IsEquationEnd (text : List ℕ) : List Token → List WrittenEquation → Type 0 where
   ends_without : IsEquationEnd text [] []
   ends_with_semicolon : {semicolon : Token} {tokens : List Token} {equations : List WrittenEquation} →
-      IsOf SEMICOLON semicolon → Optional [] (IsEquationList text) tokens equations → IsEquationEnd text (semicolon ∷ tokens) equations
+      IsOfKind SEMICOLON semicolon → Optional [] (IsEquationList text) tokens equations → IsEquationEnd text (semicolon ∷ tokens) equations
 
 -- the end of an equation with premisses
 pub data IsConclusion (text : List ℕ) : List Token → PlainConclusion → Type 0 where
   implied : {arrow equals : Token} {left_tokens tokens : List Token} {left right : WrittenTerm} →
-      IsOf IMPLIES arrow → IsTerm text left_tokens left → IsOf EQUALS equals → IsTerm text tokens right →
+      IsOfKind IMPLIES arrow → IsTerm text left_tokens left → IsOfKind EQUALS equals → IsTerm text tokens right →
       IsConclusion text (arrow ∷ (left_tokens ++ equals ∷ tokens))
       (record { premisses = []; arrow = place_of arrow; left = left; right = right })
   behind_premiss : {comma : Token} {tokens rest : List Token} {premiss : WrittenPremiss} {conclusion : PlainConclusion} →
-      IsOf COMMA comma → IsPremiss text tokens premiss → IsConclusion text rest conclusion →
+      IsOfKind COMMA comma → IsPremiss text tokens premiss → IsConclusion text rest conclusion →
       IsConclusion text (comma ∷ (tokens ++ rest))
       (record { premisses = premiss ∷ conclusion.premisses; arrow = conclusion.arrow; left = conclusion.left; right = conclusion.right })
 
 -- what stands behind the first term of an equation
 pub data IsAfterTerm (text : List ℕ) : List Token → PlainAfterTerm → Type 0 where
   right_side : {equals : Token} {tokens rest : List Token} {right : WrittenTerm} {conclusion : Option PlainConclusion} →
-      IsOf EQUALS equals → IsTerm text tokens right → Perhaps (IsConclusion text) rest conclusion →
+      IsOfKind EQUALS equals → IsTerm text tokens right → Perhaps (IsConclusion text) rest conclusion →
       IsAfterTerm text (equals ∷ (tokens ++ rest)) (record { right = Some right; conclusion = conclusion })
   only_conclusion : {tokens : List Token} {conclusion : PlainConclusion} → IsConclusion text tokens conclusion →
       IsAfterTerm text tokens (record { right = None; conclusion = Some conclusion })

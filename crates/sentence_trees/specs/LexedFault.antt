@@ -4,7 +4,7 @@ use Rattle.lotos_lexer.specs.declared.tokens.LexFault.TheVariants as lexical
 use Rattle.sentence_trees.specs.declared.fault.ReadFault.{ReadFault}
 use Rattle.sentence_trees.specs.declared.fault.ReadFault.TheVariants as fault
 
-abbrev pub fault_of : LexFault → ReadFault
-fault_of (lexical.BadByte place) = fault.BadByte place
-fault_of (lexical.OpenComment place) = fault.OpenComment place
-fault_of lexical.NoMemory = fault.NoMemory
+abbrev pub read_fault_of : LexFault → ReadFault
+read_fault_of (lexical.BadByte place) = fault.BadByte place
+read_fault_of (lexical.OpenComment place) = fault.OpenComment place
+read_fault_of lexical.NoMemory = fault.NoMemory

@@ -3,7 +3,7 @@ use Rattle.std.specs.Prelude.{ℕ, ◌==◌, List, [], ◌∷◌}
 use Rattle.lotos_lexer.specs.declared.kinds.TheConstants.{COMMA}
 use Rattle.lotos_lexer.specs.declared.tokens.Token.{Token}
 use Rattle.lotos_rows.specs.declared.names.TheConstants as names
-use Rattle.lotos_rows.specs.Words.{IsOf, Optional, Separated, Loosely, Behind}
+use Rattle.lotos_rows.specs.Words.{IsOfKind, Optional, Separated, Loosely, Behind}
 use Rattle.lotos_rows.specs.Names.{IsName, AreNames, AreOptionalNames, AreWrittenGates, AreOptionalGates, AreLooseNames, AreVariables, IsOperationName, IsWrittenOperation, IsProfile}
 use Rattle.tree_building.specs.Meaning.{Meaning, a_name, some_names, some_variables, an_operation, a_profile}
 use Rattle.sentence_trees.specs.PartSentences.{As, choose}
@@ -15,7 +15,8 @@ Further separator one = Optional [] (Behind separator (Separated separator one))
 -- further members behind a separator that may be left out
 pub data FurtherLoosely {A : Type 0} (separator : ℕ) (one : List Token → A → Type 0) : List Token → List A → Type 0 where
   none_further : FurtherLoosely separator one [] []
-  further_behind : {token : Token} {tokens : List Token} {values : List A} → IsOf separator token → Loosely separator one tokens values →
+  further_behind : {token : Token} {tokens : List Token} {values : List A} → IsOfKind separator token
+      → Loosely separator one tokens values →
       FurtherLoosely separator one (token ∷ tokens) values
   further_at_once : {tokens : List Token} {values : List A} → Loosely separator one tokens values →
       FurtherLoosely separator one tokens values

@@ -7,12 +7,12 @@ use Rattle.lotos_rows.specs.Starts.{IsBehaviourWord, IsWrittenSpecification, Are
 use Rattle.tree_building.specs.Meaning.{Meaning, a_specification, some_items, a_word, some_order_items, maybe_profile, maybe_name, some_terms}
 use Rattle.sentence_trees.specs.PartSentences.{As, choose}
 
-pub data IsWord : List Token → Unit {0} → Type 0 where
-  a_behaviour_word : {word : Token} → IsBehaviourWord word → IsWord (word ∷ []) tt
+pub data IsBehaviourWordAlone : List Token → Unit {0} → Type 0 where
+  a_behaviour_word : {word : Token} → IsBehaviourWord word → IsBehaviourWordAlone (word ∷ []) tt
 
 abbrev pub specification_part : List ℕ → ℕ → List Token → Meaning → Type 0
 specification_part text p tokens meaning =
-    choose (p == specification.ITEMS) (As some_items (AreItems text) tokens meaning) (As a_word IsWord tokens meaning)
+    choose (p == specification.ITEMS) (As some_items (AreItems text) tokens meaning) (As a_word IsBehaviourWordAlone tokens meaning)
 
 abbrev pub starts_part : List ℕ → ℕ → List Token → Meaning → Type 0
 starts_part text p tokens meaning =

@@ -4,7 +4,7 @@ use Rattle.lotos_base.specs.WrittenTerm.{PlacedName, WrittenTerm}
 use Rattle.lotos_lexer.specs.declared.kinds.TheConstants.{NAME, COMMA, OF}
 use Rattle.lotos_lexer.specs.declared.tokens.Token.{Token}
 use Rattle.lotos_rows.specs.declared.terms.TheConstants as terms
-use Rattle.lotos_rows.specs.Words.{IsOf, Optional, Many, Behind}
+use Rattle.lotos_rows.specs.Words.{IsOfKind, Optional, Many, Behind}
 use Rattle.lotos_rows.specs.Names.{named, place_of, IsOperationName}
 use Rattle.lotos_rows.specs.Terms.{IsTerm, IsFactor, AreTerms, AreArguments}
 use Rattle.tree_building.specs.Meaning.{Meaning, PlainStartedTerm, a_term, some_factors, some_names, some_terms}
@@ -23,7 +23,7 @@ pub data IsOperationAndFactor (text : List ℕ) : List Token → PlacedName × W
 -- the sort of a factor, or none
 pub data IsSortMark (text : List ℕ) : List Token → List PlacedName → Type 0 where
   no_sort_mark : IsSortMark text [] []
-  a_sort_mark : {word sort : Token} → IsOf OF word → IsOf NAME sort → IsSortMark text (word ∷ sort ∷ []) (named text sort ∷ [])
+  a_sort_mark : {word sort : Token} → IsOfKind OF word → IsOfKind NAME sort → IsSortMark text (word ∷ sort ∷ []) (named text sort ∷ [])
 
 abbrev pub terms_part : List ℕ → ℕ → List Token → Meaning → Type 0
 terms_part text p tokens meaning =

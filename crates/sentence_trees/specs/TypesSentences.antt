@@ -5,7 +5,7 @@ use Rattle.lotos_lexer.specs.declared.kinds.TheConstants.{COMMA, RENAMEDBY, ACTU
 use Rattle.lotos_lexer.specs.declared.tokens.Token.{Token}
 use Rattle.lotos_rows.specs.declared.types.TheConstants as types
 use Rattle.syntax_trees.specs.WrittenItem.{WrittenPairs, WrittenSections}
-use Rattle.lotos_rows.specs.Words.{IsOf, Optional, Behind}
+use Rattle.lotos_rows.specs.Words.{IsOfKind, Optional, Behind}
 use Rattle.lotos_rows.specs.Names.{IsName, AreNames, AreLooseNames, IsWrittenOperation}
 use Rattle.lotos_rows.specs.Equations.{AreEquations}
 use Rattle.lotos_rows.specs.Renamings.{AreRenames}
@@ -17,9 +17,9 @@ use Rattle.sentence_trees.specs.NamesSentences.{Further}
 -- what stands behind the first name of a type's body
 pub data IsAfterBase (text : List ℕ) : List Token → PlainAfterBase → Type 0 where
   renaming_behind : {word : Token} {tokens : List Token} {pairs : WrittenPairs} →
-      IsOf RENAMEDBY word → AreRenames text tokens pairs → IsAfterBase text (word ∷ tokens) (renamed pairs)
+      IsOfKind RENAMEDBY word → AreRenames text tokens pairs → IsAfterBase text (word ∷ tokens) (renamed pairs)
   actualising_behind : {word using : Token} {actual_tokens tokens : List Token} {actuals : List PlacedName} {pairs : WrittenPairs} →
-      IsOf ACTUALIZEDBY word → AreNames text actual_tokens actuals → IsOf USING using → AreRenames text tokens pairs →
+      IsOfKind ACTUALIZEDBY word → AreNames text actual_tokens actuals → IsOfKind USING using → AreRenames text tokens pairs →
       IsAfterBase text (word ∷ (actual_tokens ++ using ∷ tokens)) (actualised actuals pairs)
   extending_behind : {import_tokens tokens : List Token} {imports : List PlacedName} {sections : WrittenSections} →
       Further COMMA (IsName text) import_tokens imports → AreSections text tokens sections →

@@ -2,7 +2,7 @@
 
 ghost use Rattle.std.specs.Prelude.{◌≡◌, ◌+◌, ◌<◌, ◌^◌, IfErr, IfOk, MatchResult, length, map};
 ghost use Rattle.sentence_trees.specs.Sentences.{kind_of};
-ghost use Rattle.sentence_trees.specs.Derived.{IsDerived, IsUnderived, start_of};
+ghost use Rattle.sentence_trees.specs.Derived.{IsDerived, IsUnderived, start_part_of};
 ghost use Rattle.sentence_trees.specs.Reading.{IsFaultAs};
 
 use crate::end::blamed_place;
@@ -33,8 +33,8 @@ fn kinds_of(alloc: Global, tokens: &[Token]) -> Result<Vec<u16>, AllocError>
 /// place.
 fn derivation(alloc: Global, text: &[u8], number: u32, kind: TextKind) -> Result<Derived, ReadFault>
     requires { length text.now + 1 < 2 ^ 32 }
-    ensures { MatchResult result (IsDerived (start_of kind) number text.now)
-        (IsUnderived (start_of kind) number text.now) }
+    ensures { MatchResult result (IsDerived (start_part_of kind) number text.now)
+        (IsUnderived (start_part_of kind) number text.now) }
 {
     let tokens = lex(alloc, text, number)?;
     let kinds = kinds_of(alloc, &tokens)?;
@@ -58,7 +58,7 @@ fn derivation(alloc: Global, text: &[u8], number: u32, kind: TextKind) -> Result
 /// are a beginning and no text.
 pub fn derive(alloc: Global, text: &[u8], number: u32, kind: TextKind) -> Result<Derived, ReadFault>
     requires { length text.now + 1 < 2 ^ 32 }
-    ensures derived { IfOk result (IsDerived (start_of kind) number text.now) }
+    ensures derived { IfOk result (IsDerived (start_part_of kind) number text.now) }
     ensures fault { IfErr result (IsFaultAs kind number text.now) }
 {
     derivation(alloc, text, number, kind)

@@ -1,7 +1,7 @@
 //! Why a text is not read.
 
 ghost use Rattle.std.specs.Prelude.{◌≡◌};
-ghost use Rattle.sentence_trees.specs.LexedFault.{fault_of};
+ghost use Rattle.sentence_trees.specs.LexedFault.{read_fault_of};
 
 use lotos_base::Place;
 use lotos_lexer::LexFault;
@@ -58,7 +58,7 @@ impl<T: Drop> From<AllocFailed<T>> for ReadFault {
 }
 
 impl From<LexFault> for ReadFault {
-    ghost from_gives = { λ lexical fault. fault ≡ fault_of lexical };
+    ghost from_gives = { λ lexical fault. fault ≡ read_fault_of lexical };
 
     fn from(error: LexFault) -> ReadFault {
         match error {

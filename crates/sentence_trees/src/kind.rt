@@ -2,7 +2,7 @@
 
 ghost use Rattle.std.specs.Prelude.{◌≡◌};
 ghost use Rattle.lotos_rows.specs.Rows.{grammar_from};
-ghost use Rattle.sentence_trees.specs.Derived.{start_of};
+ghost use Rattle.sentence_trees.specs.Derived.{start_part_of};
 
 use ll_engine::Grammar;
 use lotos_rows::{order_grammar, specification_grammar, terms_grammar, types_grammar};
@@ -23,7 +23,7 @@ pub enum TextKind {
 impl TextKind {
     /// The grammar of such texts.
     pub fn grammar(self) -> Grammar
-        ensures { result ≡ grammar_from (start_of self) }
+        ensures { result ≡ grammar_from (start_part_of self) }
     {
         match self {
             TextKind::Specification => specification_grammar(),

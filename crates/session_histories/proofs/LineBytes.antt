@@ -9,7 +9,7 @@ use Rattle.lotos_base.specs.Twins.{has_twin}
 use Rattle.lotos_base.specs.Term.{Term, variable, node, Terms, no_terms, term_then}
 use Rattle.behaviour_semantics.specs.Label.{Label, inner_event, gate_event, exit_event}
 use Rattle.behaviour_semantics.specs.WellFormed.{Every}
-use Rattle.printed_texts.specs.Brackets.{begins_with, spaced, round, bracketed, after_commas, commas}
+use Rattle.printed_texts.specs.Brackets.{begins_with_sign, spaced, round, bracketed, after_commas, commas}
 use Rattle.printed_texts.specs.TermText.{sort_name, sort_text, numbered_text, Phrase, phrase_text, operand_text, of_text, arguments_text, prefix_phrase, operator_text, between_text, infix_phrase, application_phrase, node_phrase, phrase_of, phrases_of}
 use Rattle.printed_texts.specs.MenuText.{entry_term_text, term_texts, name_text, values_text, exit_values_text, label_text}
 use Rattle.behaviour_semantics.proofs.OptionLemmas.{some_value}
@@ -390,7 +390,7 @@ nothing_calm : Leads is_calm is_calm []
 nothing_calm = record { leads = λ seen e. e }
 
 spaced_leads : (sign : ℕ) (text : List ℕ) → Leads is_fresh is_calm text → Leads is_fresh is_calm (spaced sign text)
-spaced_leads sign text h = by (begins_with sign text)
+spaced_leads sign text h = by (begins_with_sign sign text)
   where
     by : (b : Bool) → Leads is_fresh is_calm (if b then codes " " ++ text else text)
     by true = joined (codes " ") text (begins_fresh (codes " ") one_blank) h

@@ -4,9 +4,9 @@ use Rattle.lotos_base.proofs.Options.{mapped, chained}
 use Rattle.lotos_base.specs.Term.{Term}
 use Rattle.lotos_base.specs.Equation.{Data, Variable}
 use Rattle.lotos_base.specs.Substitution.{Substitution, substituted, without}
-use Rattle.behaviour_semantics.specs.Behaviour.{Behaviour, stop, exit_with, action, inner_action, guard, choice, parallel, hide, enable, disable, let_be, choose_value, choose_gate, par_gate, call, relabel, Offer, give, ask, Process, Relabelling, SynchronisationSet, asked_variables, numbers_of, sorts_of, let_variables}
+use Rattle.behaviour_semantics.specs.Behaviour.{Behaviour, stop, exit_with, action, inner_action, guard, choice, parallel, hide, enable, disable, let_be, choose_value, choose_gate, par_gate, call, relabel, Process, Relabelling, SynchronisationSet, asked_variables, numbers_of, sorts_of, let_variables}
 use Rattle.behaviour_semantics.specs.Label.{Label, inner_event, gate_event, exit_event, under}
-use Rattle.behaviour_semantics.specs.Replacement.{with_values, offer_with, binding_of}
+use Rattle.behaviour_semantics.specs.Replacement.{with_values, binding_of}
 use Rattle.behaviour_semantics.specs.Rule.{moves_alone, move_together, label_values, pairwise, have_sorts, is_exit, copies}
 use Rattle.behaviour_semantics.specs.Shape.{Shape, Derivation, act, quit, inner_step, guarded, left_side, right_side, both_sides, hidden, enabled, passed, let_bound, with_value, at_gate, called, relabelled}
 use Rattle.behaviour_semantics.specs.Move.{Setting, Move, move_of, opened, alone, together, passing, enabling, disabling, hiding, asking, relabelling, after_leaf, act_move, quit_move, inner_move, guarded_move, left_move, right_move, both_move, hidden_move, enabled_move, passed_move, let_move, value_move, gate_move, called_move, relabelled_move}
@@ -18,14 +18,10 @@ use Rattle.behaviour_semantics.proofs.EveryLemmas.{every_front, every_back}
 use Rattle.behaviour_semantics.proofs.ListLemmas.{Every-append, Every-among, IsAmong-left, IsAmong-right}
 use Rattle.behaviour_semantics.proofs.OptionLemmas.{some_value}
 use Rattle.behaviour_semantics.proofs.InstanceLemmas.{every_at}
+use Rattle.behaviour_semantics.proofs.ReplacementLemmas.{asked-with}
 use Rattle.session_histories.specs.BoundNames.{names_of_variables, bound_names, names_in_bodies, names_at_hand, MovesKeepNames}
 
 -- ---- Values put in
-
-asked_stay : (values : Substitution) (offers : List Offer) → asked_variables (map (offer_with values) offers) ≡ asked_variables offers
-asked_stay values [] = refl
-asked_stay values (give t ∷ offers) = asked_stay values offers
-asked_stay values (ask x ∷ offers) = ap (λ (xs : List Variable). x ∷ xs) (asked_stay values offers)
 
 let_stay : (values : Substitution) (bindings : List (Variable × Term))
     → let_variables (map (λ (bound : Variable × Term). (bound.0, substituted values bound.1)) bindings) ≡ let_variables bindings
@@ -39,7 +35,7 @@ pub put_in : (values : Substitution) (b : Behaviour) → bound_names (with_value
 put_in values stop = refl
 put_in values (exit_with results) = refl
 put_in values (action g offers test b) =
-    ap₂ before (asked_stay values offers) (put_in (without (numbers_of (asked_variables offers)) values) b)
+    ap₂ before (asked-with values offers) (put_in (without (numbers_of (asked_variables offers)) values) b)
 put_in values (inner_action b) = put_in values b
 put_in values (guard test b) = put_in values b
 put_in values (choice b c) = ap₂ (λ (xs ys : List (List ℕ)). xs ++ ys) (put_in values b) (put_in values c)
@@ -348,7 +344,7 @@ module _ (IsName : List ℕ → Type 0) where
 -- ---- Names that are at hand
 
 -- what holds of the names among a list holds of each of its members
-each_so : (P : List ℕ → Type 0) (xs : List (List ℕ)) → ((name : List ℕ) → IsAmong name xs → P name) → Every P xs
+pub each_so : (P : List ℕ → Type 0) (xs : List (List ℕ)) → ((name : List ℕ) → IsAmong name xs → P name) → Every P xs
 each_so P [] so = tt
 each_so P (x ∷ xs) so = (so x (inl refl), each_so P xs (λ name there. so name (inr there)))
 

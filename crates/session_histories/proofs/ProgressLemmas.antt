@@ -41,17 +41,6 @@ first_stepped : (last : Situation) (steps : List PastStep) (mid : Situation) (it
 first_stepped last [] mid item = refl
 first_stepped last (step ∷ steps) mid item = refl
 
--- the first situation is that which the steps lead from
-pub is_first : (basis : SessionBasis) (first last : Situation) (steps : List PastStep) → LeadTo basis first steps last
-    → first_of last steps ≡ first
-is_first basis first last [] h = sym h
-is_first basis first last (step ∷ steps) h = h.0
-
-pub lawful_from : (basis : SessionBasis) (first : Situation) (progress : Progress) → IsLawfulFrom basis first progress
-    → IsLawful basis progress
-lawful_from basis first progress h =
-    subst (λ (it : Situation). IsLawfulFrom basis it progress) (sym (is_first basis first progress.situation progress.steps h.steps)) h
-
 -- ---- Steps and undo
 
 pub stepped_lawful : (basis : SessionBasis) (old new : Progress) (number : ℕ) (values : List Term) (label : Label) → IsLawful basis old

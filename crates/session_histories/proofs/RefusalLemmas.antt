@@ -7,7 +7,7 @@ pub use Rattle.behaviour_semantics.proofs.SupplyLemmas.{length-values as as_many
 use Rattle.lotos_base.specs.Signature.{Signature}
 use Rattle.lotos_base.specs.Term.{Term}
 use Rattle.lotos_base.specs.Tests.{term_eq}
-use Rattle.lotos_base.specs.Sorting.{HasSort, IsGroundOf, sort_of}
+use Rattle.lotos_base.specs.Sorting.{HasSort, IsGroundOf, head_sort_of}
 use Rattle.lotos_base.specs.Equation.{Data}
 use Rattle.lotos_base.specs.Substitution.{substituted}
 use Rattle.lotos_base.specs.Canon.{IsCanon}
@@ -20,7 +20,7 @@ use Rattle.behaviour_semantics.specs.Derives.{leaves_in}
 use Rattle.behaviour_semantics.specs.DraftOrder.{IsDraftTest}
 use Rattle.behaviour_semantics.specs.Fault.{first_of_two}
 use Rattle.behaviour_semantics.specs.Replacement.{test_with}
-use Rattle.behaviour_semantics.specs.Rule.{AllHold, AreValues, is_same_sort}
+use Rattle.behaviour_semantics.specs.Rule.{AllHold, AreValues, is_same_known_sort}
 use Rattle.behaviour_semantics.specs.Solving.{Entry, test_in}
 use Rattle.behaviour_semantics.specs.SolvingLaws.{IsTermOver}
 use Rattle.behaviour_semantics.specs.WellFormed.{Every}
@@ -101,9 +101,9 @@ freed basis number count found values f =
 -- ---- Sorts of values
 
 same_sorts : (signature : Signature) (value : Term) (r s : ℕ) → IsGroundOf signature r value
-    → is_same_sort (sort_of signature value) (Some s) ≡ nat_eq r s
+    → is_same_known_sort (head_sort_of signature value) (Some s) ≡ nat_eq r s
 same_sorts signature value r s ground =
-    ap (λ (o : Option ℕ). is_same_sort o (Some s)) (sort_of_sorted signature value r ground.sorted)
+    ap (λ (o : Option ℕ). is_same_known_sort o (Some s)) (sort_of_sorted signature value r ground.sorted)
 
 pub sorts_fit : (signature : Signature) (variable : ℕ) (sorts : List ℕ) (values : List Term) → length values ≡ length sorts
     → Every (λ (v : Term). (sort : ℕ) × IsGroundOf signature sort v) values → sort_refusal signature variable sorts values ≡ None

@@ -15,13 +15,13 @@ use Rattle.behaviour_semantics.specs.Label.{Label}
 use Rattle.behaviour_semantics.specs.Solving.{Entry}
 use Rattle.behaviour_semantics.specs.TargetLaws.{TargetsAreWellFormed}
 use Rattle.behaviour_semantics.proofs.OptionLemmas.{some_value}
-use Rattle.session_histories.specs.Session.{SessionBasis, Situation, Progress, opened, first_situation}
+use Rattle.session_histories.specs.Session.{SessionBasis, Situation, Progress, opened_progress, first_situation}
 use Rattle.session_histories.specs.Refusal.{StepRefusal, entry_numbered, number_refusal, count_refusal, condition_refusal}
 use Rattle.session_histories.specs.Lawful.{IsSituation, IsLawful, HasStepped}
 use Rattle.session_histories.specs.Replay.{LineRefusal, bad_line, step_refused, label_differs, state_differs, ReplayRefusal, in_line, LinesOutcome, goes_on, stops, AreRead, IsOneMisread, shown_label, shown_state, first_line, LineComesTo, has_no_form, is_not_read, is_miscounted, is_misread, is_unmet, is_mislabelled, is_replayed, StateComesTo, is_missing, has_no_state, is_elsewhere, is_there, LinesComeTo, all_done, one_stops, one_goes_on, StatedLinesComeTo, all_stated, step_stops, state_stops, both_go_on, ComeBehindName, ComeBehind, TraceComesTo, ReplayIs}
 use Rattle.session_histories.specs.SessionLaws.{IsStateOver, HaveOneStart}
 use Rattle.session_histories.specs.StepLaws.{StepsAreExact}
-use Rattle.session_histories.specs.TraceLine.{StepLine, step_line, lines_of, Heading, no_heading, of_steps, of_states, heading_of}
+use Rattle.session_histories.specs.TraceLine.{StepLine, step_line, lines_of, TraceHeading, no_heading, of_steps, of_states, trace_heading_of}
 use Rattle.session_histories.proofs.ProgressLemmas.{stepped_lawful}
 use Rattle.session_histories.proofs.RefusalLemmas.{IsFree, free_of_count}
 use Rattle.session_histories.proofs.StepLemmas.{met_free}
@@ -391,23 +391,23 @@ module _ (texts : TextsHaveOneOutcome) (readings : ReadingComesToOneThing) (step
       (subst (λ (it : Progress). StatedLinesComeTo basis (number + 2) it lines other) (sym same) more)
 
   named_once : (first : Situation) (is_named : Bool) (kept : List ℕ) (lines : List (List ℕ)) (one other : LinesOutcome ReplayRefusal)
-      → IsReady basis (opened first) → ComeBehindName basis first is_named kept lines one
+      → IsReady basis (opened_progress first) → ComeBehindName basis first is_named kept lines one
       → ComeBehindName basis first is_named kept lines other → one ≡ other
-  named_once first true kept lines one other ready h k = stated_once 2 (opened first) lines one other ready h k
+  named_once first true kept lines one other ready h k = stated_once 2 (opened_progress first) lines one other ready h k
   named_once first false kept lines one other ready h k = h ∙ sym k
 
-  behind_once : (first : Situation) (heading : Heading) (lines : List (List ℕ)) (one other : LinesOutcome ReplayRefusal)
-      → IsReady basis (opened first) → ComeBehind basis first heading lines one → ComeBehind basis first heading lines other
+  behind_once : (first : Situation) (heading : TraceHeading) (lines : List (List ℕ)) (one other : LinesOutcome ReplayRefusal)
+      → IsReady basis (opened_progress first) → ComeBehind basis first heading lines one → ComeBehind basis first heading lines other
       → one ≡ other
   behind_once first no_heading lines one other ready h k = h ∙ sym k
-  behind_once first of_steps lines one other ready h k = lines_once 2 (opened first) lines one other ready h k
+  behind_once first of_steps lines one other ready h k = lines_once 2 (opened_progress first) lines one other ready h k
   behind_once first (of_states kept) lines one other ready h k =
       named_once first (one_name kept basis.specification.name) kept lines one other ready h k
 
-  trace_once : (first : Situation) (lines : List (List ℕ)) (one other : LinesOutcome ReplayRefusal) → IsReady basis (opened first)
+  trace_once : (first : Situation) (lines : List (List ℕ)) (one other : LinesOutcome ReplayRefusal) → IsReady basis (opened_progress first)
       → TraceComesTo basis first lines one → TraceComesTo basis first lines other → one ≡ other
   trace_once first [] one other ready h k = h ∙ sym k
-  trace_once first (line ∷ lines) one other ready h k = behind_once first (heading_of line) lines one other ready h k
+  trace_once first (line ∷ lines) one other ready h k = behind_once first (trace_heading_of line) lines one other ready h k
 
   pub replay_once : (first : Situation) (text : List ℕ) (one other : LinesOutcome ReplayRefusal) → IsStateOver basis first.state
       → IsSituation basis first → ReplayIs basis first text one → ReplayIs basis first text other → one ≡ other
@@ -444,22 +444,22 @@ named_lawful : (basis : SessionBasis) (first : Situation) (is_named : Bool) (kep
     → IsSituation basis first → ComeBehindName basis first is_named kept lines (goes_on new)
     → IsLawful basis new × (first_situation new ≡ first)
 named_lawful basis first true kept lines new menu h =
-    stated_lawful basis 2 (opened first) new lines (record { start = menu; steps = refl }) h
+    stated_lawful basis 2 (opened_progress first) new lines (record { start = menu; steps = refl }) h
 named_lawful basis first false kept lines new menu h = absurd (no_stop new _ h)
 
-behind_lawful : (basis : SessionBasis) (first : Situation) (heading : Heading) (lines : List (List ℕ)) (new : Progress)
+behind_lawful : (basis : SessionBasis) (first : Situation) (heading : TraceHeading) (lines : List (List ℕ)) (new : Progress)
     → IsSituation basis first → ComeBehind basis first heading lines (goes_on new)
     → IsLawful basis new × (first_situation new ≡ first)
 behind_lawful basis first no_heading lines new menu h = absurd (no_stop new _ h)
 behind_lawful basis first of_steps lines new menu h =
-    lines_lawful basis 2 (opened first) new lines (record { start = menu; steps = refl }) h
+    lines_lawful basis 2 (opened_progress first) new lines (record { start = menu; steps = refl }) h
 behind_lawful basis first (of_states kept) lines new menu h =
     named_lawful basis first (one_name kept basis.specification.name) kept lines new menu h
 
 trace_lawful : (basis : SessionBasis) (first : Situation) (lines : List (List ℕ)) (new : Progress) → IsSituation basis first
     → TraceComesTo basis first lines (goes_on new) → IsLawful basis new × (first_situation new ≡ first)
 trace_lawful basis first [] new menu h = absurd (no_stop new _ h)
-trace_lawful basis first (line ∷ lines) new menu h = behind_lawful basis first (heading_of line) lines new menu h
+trace_lawful basis first (line ∷ lines) new menu h = behind_lawful basis first (trace_heading_of line) lines new menu h
 
 pub replay_lawful : (basis : SessionBasis) (first : Situation) (text : List ℕ) (new : Progress) → IsSituation basis first
     → ReplayIs basis first text (goes_on new) → IsLawful basis new × (first_situation new ≡ first)

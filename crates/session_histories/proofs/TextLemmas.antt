@@ -12,7 +12,7 @@ use Rattle.behaviour_semantics.specs.WellFormed.{Every}
 use Rattle.behaviour_semantics.proofs.EveryLemmas.{every_front, every_back}
 use Rattle.behaviour_semantics.proofs.InstanceLemmas.{every_at}
 use Rattle.behaviour_semantics.proofs.ListLemmas.{Every-append, Every-weaker}
-use Rattle.printed_texts.specs.Brackets.{begins_with, spaced, round, square, bracketed, after_commas, commas}
+use Rattle.printed_texts.specs.Brackets.{begins_with_sign, spaced, round, square, bracketed, after_commas, commas}
 use Rattle.printed_texts.specs.TermText.{sort_name, sort_text, variable_text, Phrase, phrase_text, operand_text, of_text, arguments_text, prefix_phrase, operator_text, between_text, infix_phrase, application_phrase, node_phrase, phrase_of, phrases_of, term_text}
 use Rattle.printed_texts.specs.MenuText.{name_text}
 use Rattle.printed_texts.specs.BehaviourText.{Naming, naming_in, gate_text, gates_text, process_names, called_text, declared_text, declarations_text, equation_text, test_text, predicate_text, offers_text, exit_value_text, round_list, square_list, sign_text, enable_sign, binding_text, pair_text, call_text, stands_in_brackets, unit_text, between_blanks, behaviour_text, state_text}
@@ -78,7 +78,7 @@ module _ (passes : ℕ → Bool) (fixed : (byte : ℕ) → is_printable byte ≡
   -- ---- Brackets and commas
 
   spaced_fine : (code : ℕ) (text : List ℕ) → Fine text → Fine (spaced code text)
-  spaced_fine code text fine = by (begins_with code text)
+  spaced_fine code text fine = by (begins_with_sign code text)
     where
       by : (b : Bool) → Fine (if b then codes " " ++ text else text)
       by true = two (codes " ") text (sign (codes " ") refl) fine

@@ -22,7 +22,7 @@ use Rattle.session_histories.specs.Session.{SessionBasis, Item, Situation, PastS
 use Rattle.session_histories.specs.Lawful.{IsSituation, IsLawfulItem, LeadTo}
 use Rattle.session_histories.specs.Replay.{LinesOutcome, ReplayRefusal, goes_on, LineComesTo, is_replayed, is_there, LinesComeTo, all_done, one_goes_on, StatedLinesComeTo, all_stated, both_go_on, ComeBehindName, ComeBehind, TraceComesTo, ReplayIs}
 use Rattle.session_histories.specs.TraceLaws.{HavePlainNames, IsReadable, ReadBack, HaveLineNames, trace_of}
-use Rattle.session_histories.specs.TraceLine.{StepLine, with_byte, around_arrow, first_digits, behind_digits, leads_with_zero, is_number, with_terms, with_number, with_arrow, step_line, with_first, lines_of, has_return, kept_state, Heading, of_states, with_name, heading_of}
+use Rattle.session_histories.specs.TraceLine.{StepLine, with_byte, around_arrow, first_digits, behind_digits, leads_with_zero, is_number, with_terms, step_with_number, with_arrow, step_line, with_first, lines_of, has_return, kept_state, TraceHeading, of_states, heading_with_name, trace_heading_of}
 use Rattle.session_histories.specs.TraceText.{given_text, arrow, step_text, ended, steps_text, plain_trace, trace_heading, line_of_state, stated_steps}
 use Rattle.session_histories.specs.BoundNames.{bound_names, names_in_bodies, names_at_hand, MovesKeepNames}
 use Rattle.session_histories.specs.StateTexts.{StateTextsAreOfNames}
@@ -113,6 +113,15 @@ digits_first (digit ∷ digits) more h none =
     and_parts (is_ascii_digit digit) (list_all is_ascii_digit digits) h in
     ap (λ (b : Bool). if b then digit ∷ first_digits (digits ++ more) else []) all.0
     ∙ ap (λ (it : List ℕ). digit ∷ it) (digits_first digits more all.1 none)
+
+pub all_are_digits : (text : List ℕ) → list_all is_ascii_digit (first_digits text) ≡ true
+all_are_digits [] = refl
+all_are_digits (byte ∷ bytes) = by (is_ascii_digit byte) refl (all_are_digits bytes)
+  where
+    by : (b : Bool) → is_ascii_digit byte ≡ b → list_all is_ascii_digit (first_digits bytes) ≡ true
+        → list_all is_ascii_digit (if b then byte ∷ first_digits bytes else []) ≡ true
+    by true e rest = ap (λ (b : Bool). b && list_all is_ascii_digit (first_digits bytes)) e ∙ rest
+    by false e rest = refl
 
 digits_behind : (digits more : List ℕ) → list_all is_ascii_digit digits ≡ true → behind_digits more ≡ more
     → behind_digits (digits ++ more) ≡ more
@@ -218,7 +227,7 @@ module _ (basis : SessionBasis) (plain : HavePlainNames basis) where
       (line_without 13 refl (without 13 refl nothing) item)
       ∙ (ap (λ (it : List ℕ). with_arrow (around_arrow it)) (append_assoc (digits ++ given) arrow label)
       ∙ (ap with_arrow (arrow_at nothing (digits ++ given) label (before_calm item))
-      ∙ (ap₂ (λ (it rest : List ℕ). with_number it rest label)
+      ∙ (ap₂ (λ (it rest : List ℕ). step_with_number it rest label)
       (digits_first digits given all (given_first basis.data_.signature item.values))
       (digits_behind digits given all (given_behind basis.data_.signature item.values))
       ∙ (ap (λ (b : Bool). if b then with_terms (digits_value 10 digits) given label else None) (number_form item.number small wide)
@@ -374,9 +383,9 @@ module _ (basis : SessionBasis) (plain : HavePlainNames basis) where
 
     -- ---- The first line
 
-    says_name : (name : List ℕ) → name ≢ [] → has_return name ≡ false → heading_of (trace_heading name) ≡ of_states name
+    says_name : (name : List ℕ) → name ≢ [] → has_return name ≡ false → trace_heading_of (trace_heading name) ≡ of_states name
     says_name [] some none = absurd (some refl)
-    says_name (byte ∷ bytes) some none = ap (λ (b : Bool). with_name (if b then None else Some (byte ∷ bytes))) none
+    says_name (byte ∷ bytes) some none = ap (λ (b : Bool). heading_with_name (if b then None else Some (byte ∷ bytes))) none
 
     pub stated_leads_back : (first last : Situation) (steps : List PastStep) → LeadTo basis first steps last
         → Every (IsReadable basis) (items_of steps) → first.state ≡ begin
@@ -386,7 +395,7 @@ module _ (basis : SessionBasis) (plain : HavePlainNames basis) where
         let came : LinesOutcome ReplayRefusal = goes_on (record { situation = last; steps = steps }) in
         subst (λ (it : List (List ℕ)). TraceComesTo basis first it came)
         (sym (ended_cut (trace_heading name) (stated_lines last steps) have.name.no_line_feed))
-        (subst (λ (it : Heading). ComeBehind basis first it (lines_of (stated_lines last steps)) came)
+        (subst (λ (it : TraceHeading). ComeBehind basis first it (lines_of (stated_lines last steps)) came)
         (sym (says_name name have.named have.name.no_return))
         (subst (λ (it : Bool). ComeBehindName basis first it name (lines_of (stated_lines last steps)) came)
         (sym (bytes_same (folded name) (folded name) refl))

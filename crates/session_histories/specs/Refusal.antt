@@ -2,11 +2,11 @@
 use Rattle.std.specs.Prelude.{ℕ, zero, suc, List, ◌∷◌, length, nat_eq, if◌then◌else◌, slice_get, Option, None, Some, option_map}
 use Rattle.lotos_base.specs.Signature.{Signature}
 use Rattle.lotos_base.specs.Term.{Term}
-use Rattle.lotos_base.specs.Sorting.{sort_of}
+use Rattle.lotos_base.specs.Sorting.{head_sort_of}
 use Rattle.behaviour_semantics.specs.Behaviour.{Test}
 use Rattle.behaviour_semantics.specs.Derives.{leaves_in}
 use Rattle.behaviour_semantics.specs.Fault.{first_of_two}
-use Rattle.behaviour_semantics.specs.Rule.{is_same_sort}
+use Rattle.behaviour_semantics.specs.Rule.{is_same_known_sort}
 use Rattle.behaviour_semantics.specs.Solving.{Entry}
 use Rattle.printed_texts.specs.HandedOn.{unmet_among}
 use Rattle.session_histories.specs.Session.{SessionBasis}
@@ -37,7 +37,7 @@ number_refusal menu number given = count_refusal number (length menu) (entry_num
 -- The first value of another sort than its variable, where the first of these variables has this number.
 abbrev pub sort_refusal : Signature → ℕ → List ℕ → List Term → Option StepRefusal
 sort_refusal signature variable (sort ∷ sorts) (value ∷ values) =
-    if is_same_sort (sort_of signature value) (Some sort)
+    if is_same_known_sort (head_sort_of signature value) (Some sort)
     then sort_refusal signature (suc variable) sorts values
     else Some (value_sort variable)
 sort_refusal signature variable _ _ = None

@@ -11,38 +11,36 @@ use Rattle.behaviour_semantics.specs.Solving.{Entry}
 use Rattle.session_histories.specs.Session.{SessionBasis, Item}
 use Rattle.session_histories.specs.Refusal.{StepRefusal, no_entry, value_count, value_sort, unmet, step_refusal}
 use Rattle.session_histories.specs.TraceText.{plain_trace}
+use Rattle.lotos_base.specs.SmallData.{nought}
 
 -- the sorts Bool and Nat, and the operations `0`, `Succ`, `true`, `false` and `lt`
-abbrev pub operation_named : List ℕ → Form → List ℕ → ℕ → Operation
-operation_named name form arguments result =
+abbrev pub small_operation : List ℕ → Form → List ℕ → ℕ → Operation
+small_operation name form arguments result =
     record { name = name; form = form; arguments = arguments; result = result; origin = codes "T" }
 
 abbrev pub small_signature : Signature
 small_signature = record {
   sorts = record { name = codes "Bool"; origin = codes "T" } ∷ record { name = codes "Nat"; origin = codes "T" } ∷ [];
   operations =
-      operation_named (codes "0") prefix_form [] 1
-      ∷ operation_named (codes "Succ") prefix_form (1 ∷ []) 1
-      ∷ operation_named (codes "true") prefix_form [] 0
-      ∷ operation_named (codes "false") prefix_form [] 0
-      ∷ operation_named (codes "lt") infix_form (1 ∷ 1 ∷ []) 0
+      small_operation (codes "0") prefix_form [] 1
+      ∷ small_operation (codes "Succ") prefix_form (1 ∷ []) 1
+      ∷ small_operation (codes "true") prefix_form [] 0
+      ∷ small_operation (codes "false") prefix_form [] 0
+      ∷ small_operation (codes "lt") infix_form (1 ∷ 1 ∷ []) 0
       ∷ [];
 }
 
-abbrev pub nought : Term
-nought = node 0 no_terms
+abbrev pub small_succ : Term → Term
+small_succ t = node 1 (term_then t no_terms)
 
-abbrev pub succ : Term → Term
-succ t = node 1 (term_then t no_terms)
+abbrev pub small_truth : Term
+small_truth = node 2 no_terms
 
-abbrev pub truth : Term
-truth = node 2 no_terms
+abbrev pub small_falsehood : Term
+small_falsehood = node 3 no_terms
 
-abbrev pub falsehood : Term
-falsehood = node 3 no_terms
-
-abbrev pub less : Term → Term → Term
-less t u = node 4 (term_then t (term_then u no_terms))
+abbrev pub small_less : Term → Term → Term
+small_less t u = node 4 (term_then t (term_then u no_terms))
 
 -- how many `Succ` stand round `0`
 abbrev mutual
@@ -55,8 +53,8 @@ abbrev mutual
   count_first (term_then t ts) = suc (count t)
 
 abbrev pub told : Bool → Term
-told true = truth
-told false = falsehood
+told true = small_truth
+told false = small_falsehood
 
 -- the canonical form of `t lt u` of numbers; other terms stay
 abbrev pub small_canon : Term → Term
@@ -87,7 +85,7 @@ number_entry = record {
   label = gate_event 0 (variable 0 1 ∷ []);
   variables = 1 ∷ [];
   leaves = variable 0 1 ∷ [];
-  conditions = record { left = less (variable 0 1) (succ (succ nought)); right = truth } ∷ [];
+  conditions = record { left = small_less (variable 0 1) (small_succ (small_succ nought)); right = small_truth } ∷ [];
 }
 
 abbrev pub choice_entry : Entry
@@ -108,13 +106,13 @@ RefusesStep number values refusal = step_refusal small_basis small_menu number v
 -- The causes of a refusal, in their order.
 pub record StepsAreRefused : Type 0 where
   pub entry_zero : RefusesStep 0 [] (Some (no_entry 0 2))
-  pub past_the_end : RefusesStep 3 (truth ∷ []) (Some (no_entry 3 2))
+  pub past_the_end : RefusesStep 3 (small_truth ∷ []) (Some (no_entry 3 2))
   pub too_few : RefusesStep 1 [] (Some (value_count 1 0))
-  pub too_many : RefusesStep 1 (truth ∷ truth ∷ []) (Some (value_count 1 2))
-  pub other_sort : RefusesStep 1 (truth ∷ []) (Some (value_sort 0))
-  pub unmet : RefusesStep 1 (succ (succ nought) ∷ []) (Some (unmet falsehood truth))
-  pub met : RefusesStep 1 (succ nought ∷ []) None
-  pub no_condition : RefusesStep 2 (falsehood ∷ []) None
+  pub too_many : RefusesStep 1 (small_truth ∷ small_truth ∷ []) (Some (value_count 1 2))
+  pub other_sort : RefusesStep 1 (small_truth ∷ []) (Some (value_sort 0))
+  pub unmet : RefusesStep 1 (small_succ (small_succ nought) ∷ []) (Some (unmet small_falsehood small_truth))
+  pub met : RefusesStep 1 (small_succ nought ∷ []) None
+  pub no_condition : RefusesStep 2 (small_falsehood ∷ []) None
 
 abbrev pub item : ℕ → List Term → Label → Item
 item number values label = record {
@@ -129,8 +127,8 @@ pub record TracesHaveTexts : Type 0 where
   pub no_step : plain_trace small_signature small_specification.gate_names [] ≡ codes "lotos-trace 1\n"
   pub steps :
       plain_trace small_signature small_specification.gate_names
-      (item 1 (succ nought ∷ []) (gate_event 0 (succ nought ∷ []))
+      (item 1 (small_succ nought ∷ []) (gate_event 0 (small_succ nought ∷ []))
       ∷ item 12 [] inner_event
-      ∷ item 3 (nought ∷ less nought (succ nought) ∷ []) (exit_event (nought ∷ truth ∷ []))
+      ∷ item 3 (nought ∷ small_less nought (small_succ nought) ∷ []) (exit_event (nought ∷ small_truth ∷ []))
       ∷ [])
       ≡ codes "lotos-trace 1\n1 Succ(0) => g !Succ(0)\n12 => i\n3 0, 0 lt Succ(0) => exit(0, true)\n"

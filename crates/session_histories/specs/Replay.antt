@@ -12,10 +12,10 @@ use Rattle.behaviour_semantics.specs.Label.{Label}
 use Rattle.behaviour_semantics.specs.Solving.{Entry}
 use Rattle.printed_texts.specs.BehaviourText.{state_text}
 use Rattle.printed_texts.specs.MenuText.{label_text}
-use Rattle.session_histories.specs.Session.{SessionBasis, Situation, Progress, opened}
+use Rattle.session_histories.specs.Session.{SessionBasis, Situation, Progress, opened_progress}
 use Rattle.session_histories.specs.Refusal.{StepRefusal, entry_numbered, number_refusal, condition_refusal}
 use Rattle.session_histories.specs.Lawful.{HasStepped}
-use Rattle.session_histories.specs.TraceLine.{StepLine, step_line, lines_of, kept_state, Heading, no_heading, of_steps, of_states, heading_of}
+use Rattle.session_histories.specs.TraceLine.{StepLine, step_line, lines_of, kept_state, TraceHeading, no_heading, of_steps, of_states, trace_heading_of}
 
 -- Why a line of a trace is refused: it has not its form, or its terms are not read; the step that it names is refused; the label that
 -- it keeps is not the text of the label that is found; or the state that it keeps is not the text of the state that is reached.
@@ -168,19 +168,19 @@ refuses_heading = stops (in_line 1 bad_line)
 
 -- The lines behind a heading of format 2, which names the specification or not, without regard to letter case.
 abbrev pub ComeBehindName : SessionBasis → Situation → Bool → List ℕ → List (List ℕ) → LinesOutcome ReplayRefusal → Type 0
-ComeBehindName basis first true kept lines outcome = StatedLinesComeTo basis 2 (opened first) lines outcome
+ComeBehindName basis first true kept lines outcome = StatedLinesComeTo basis 2 (opened_progress first) lines outcome
 ComeBehindName basis first false kept lines outcome = outcome ≡ stops (other_specification kept)
 
 -- The lines behind the first one, by what this says.
-abbrev pub ComeBehind : SessionBasis → Situation → Heading → List (List ℕ) → LinesOutcome ReplayRefusal → Type 0
+abbrev pub ComeBehind : SessionBasis → Situation → TraceHeading → List (List ℕ) → LinesOutcome ReplayRefusal → Type 0
 ComeBehind basis first no_heading lines outcome = outcome ≡ refuses_heading
-ComeBehind basis first of_steps lines outcome = LinesComeTo basis 2 (opened first) lines outcome
+ComeBehind basis first of_steps lines outcome = LinesComeTo basis 2 (opened_progress first) lines outcome
 ComeBehind basis first (of_states kept) lines outcome =
     ComeBehindName basis first (one_name kept basis.specification.name) kept lines outcome
 
 abbrev pub TraceComesTo : SessionBasis → Situation → List (List ℕ) → LinesOutcome ReplayRefusal → Type 0
 TraceComesTo basis first [] outcome = outcome ≡ refuses_heading
-TraceComesTo basis first (line ∷ lines) outcome = ComeBehind basis first (heading_of line) lines outcome
+TraceComesTo basis first (line ∷ lines) outcome = ComeBehind basis first (trace_heading_of line) lines outcome
 
 -- What the text of a trace comes to in a session that begins in this situation.
 abbrev pub ReplayIs : SessionBasis → Situation → List ℕ → LinesOutcome ReplayRefusal → Type 0

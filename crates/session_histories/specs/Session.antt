@@ -37,8 +37,8 @@ pub record Progress : Type 0 where
   pub steps : List PastStep
 
 -- A session that has taken no step.
-abbrev pub opened : Situation → Progress
-opened first = record { situation = first; steps = [] }
+abbrev pub opened_progress : Situation → Progress
+opened_progress first = record { situation = first; steps = [] }
 
 -- The items of the steps, and their derivations.
 abbrev pub items_of : List PastStep → List Item

@@ -7,7 +7,7 @@ use Rattle.behaviour_semantics.specs.Label.{Label}
 use Rattle.behaviour_semantics.specs.Rule.{as_given}
 use Rattle.behaviour_semantics.specs.Run.{Reaches}
 use Rattle.behaviour_semantics.specs.WellFormed.{AreOver}
-use Rattle.session_histories.specs.Session.{SessionBasis, Situation, PastStep, Progress, opened, first_situation, derivations_of, HasUndone}
+use Rattle.session_histories.specs.Session.{SessionBasis, Situation, PastStep, Progress, opened_progress, first_situation, derivations_of, HasUndone}
 use Rattle.session_histories.specs.Lawful.{IsSituation, IsLawful, LeadTo, HasStepped}
 
 -- The state is closed and well formed over the specification, and the data have a canon.
@@ -45,7 +45,7 @@ HaveOneStart old new = first_situation new ≡ first_situation old
 
 -- Steps and undo keep a session lawful, and its first situation.
 pub record SessionsStayLawful : Type 0 where
-  pub at_start : (basis : SessionBasis) (first : Situation) → IsSituation basis first → IsLawful basis (opened first)
+  pub at_start : (basis : SessionBasis) (first : Situation) → IsSituation basis first → IsLawful basis (opened_progress first)
   pub stepped :
       (basis : SessionBasis) (old new : Progress) (number : ℕ) (values : List Term) (label : Label) →
       IsLawful basis old →

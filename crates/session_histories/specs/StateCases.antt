@@ -3,25 +3,26 @@
 use Rattle.std.specs.Prelude.{◌≡◌, ℕ, List, [], ◌∷◌, codes, None, Some}
 use Rattle.behaviour_semantics.specs.Behaviour.{Behaviour, stop, action, give}
 use Rattle.behaviour_semantics.specs.Label.{gate_event}
-use Rattle.session_histories.specs.Session.{Situation, PastStep, Progress, opened}
+use Rattle.session_histories.specs.Session.{Situation, PastStep, Progress, opened_progress}
 use Rattle.session_histories.specs.TraceText.{trace_text}
-use Rattle.session_histories.specs.TraceLine.{no_heading, of_steps, of_states, heading_of, kept_state}
+use Rattle.session_histories.specs.TraceLine.{no_heading, of_steps, of_states, trace_heading_of, kept_state}
 use Rattle.session_histories.specs.Replay.{bad_line, state_differs, ReplayRefusal, in_line, other_specification, LinesOutcome, goes_on, stops, LineComesTo, ReplayIs}
-use Rattle.session_histories.specs.RefusalCases.{small_signature, small_specification, small_basis, small_menu, nought, item}
+use Rattle.lotos_base.specs.SmallData.{nought}
+use Rattle.session_histories.specs.RefusalCases.{small_signature, small_specification, small_basis, small_menu, item}
 
 -- The first line: the format, and in format 2 a name of at least one byte, whatever these are.
 pub record HeadingsSay : Type 0 where
-  pub plain : heading_of (codes "lotos-trace 1") ≡ of_steps
-  pub stated : heading_of (codes "lotos-trace 2 Buffer") ≡ of_states (codes "Buffer")
-  pub blanks : heading_of (codes "lotos-trace 2  a b ") ≡ of_states (codes " a b ")
-  pub no_name : heading_of (codes "lotos-trace 2 ") ≡ no_heading
-  pub no_blank : heading_of (codes "lotos-trace 2") ≡ no_heading
-  pub name_behind_one : heading_of (codes "lotos-trace 1 S") ≡ no_heading
-  pub other_format : heading_of (codes "lotos-trace 3 S") ≡ no_heading
-  pub capital : heading_of (codes "Lotos-trace 1") ≡ no_heading
-  pub plain_return : heading_of (codes "lotos-trace 1\r") ≡ no_heading
-  pub stated_return : heading_of (codes "lotos-trace 2 S\r") ≡ no_heading
-  pub nothing : heading_of [] ≡ no_heading
+  pub plain : trace_heading_of (codes "lotos-trace 1") ≡ of_steps
+  pub stated : trace_heading_of (codes "lotos-trace 2 Buffer") ≡ of_states (codes "Buffer")
+  pub blanks : trace_heading_of (codes "lotos-trace 2  a b ") ≡ of_states (codes " a b ")
+  pub no_name : trace_heading_of (codes "lotos-trace 2 ") ≡ no_heading
+  pub no_blank : trace_heading_of (codes "lotos-trace 2") ≡ no_heading
+  pub name_behind_one : trace_heading_of (codes "lotos-trace 1 S") ≡ no_heading
+  pub other_format : trace_heading_of (codes "lotos-trace 3 S") ≡ no_heading
+  pub capital : trace_heading_of (codes "Lotos-trace 1") ≡ no_heading
+  pub plain_return : trace_heading_of (codes "lotos-trace 1\r") ≡ no_heading
+  pub stated_return : trace_heading_of (codes "lotos-trace 2 S\r") ≡ no_heading
+  pub nothing : trace_heading_of [] ≡ no_heading
 
 -- A line of a state keeps what stands behind `at `, to the byte.
 pub record StatesAreKept : Type 0 where
@@ -56,55 +57,55 @@ small_steps =
 -- Behind each step stands the state that it led to, not the one in which it was taken.
 pub record TracesHaveStates : Type 0 where
   pub no_step :
-      trace_text small_signature small_specification (opened (standing_in first_state)) ≡ codes "lotos-trace 2 S\n"
+      trace_text small_signature small_specification (opened_progress (standing_in first_state)) ≡ codes "lotos-trace 2 S\n"
   pub steps :
       trace_text small_signature small_specification (record { situation = standing_in stop; steps = small_steps })
       ≡ codes "lotos-trace 2 S\n1 0 => g !0\nat h !0; stop\n1 => h !0\nat stop\n"
 
 -- What the text comes to in a session that begins in a situation.
-abbrev pub ComesTo : Situation → List ℕ → LinesOutcome ReplayRefusal → Type 0
-ComesTo first text outcome = ReplayIs small_basis first text outcome
+abbrev pub ReplayOfTextComesTo : Situation → List ℕ → LinesOutcome ReplayRefusal → Type 0
+ReplayOfTextComesTo first text outcome = ReplayIs small_basis first text outcome
 
 -- the line `1 0 => g !0` leads to this session, which stands in `h !0; stop`
 pub record LeadsOn (first : Situation) (next : Progress) : Type 0 where
-  pub goes : LineComesTo small_basis (opened first) (codes "1 0 => g !0") (goes_on next)
+  pub goes : LineComesTo small_basis (opened_progress first) (codes "1 0 => g !0") (goes_on next)
   pub state : next.situation.state ≡ second_state
 
 -- What a trace comes to: first by its first line, then by each step with the state behind it. A line that is missing has the number
 -- behind the last one.
 pub record StatesAreCompared : Type 0 where
-  pub nothing : (first : Situation) → ComesTo first [] (stops (in_line 1 bad_line))
+  pub nothing : (first : Situation) → ReplayOfTextComesTo first [] (stops (in_line 1 bad_line))
   pub other_name :
       (first : Situation) →
-      ComesTo first (codes "lotos-trace 2 Other\n") (stops (other_specification (codes "Other")))
+      ReplayOfTextComesTo first (codes "lotos-trace 2 Other\n") (stops (other_specification (codes "Other")))
   pub other_name_first :
       (first : Situation) →
-      ComesTo first (codes "lotos-trace 2 Other\nno step\n") (stops (other_specification (codes "Other")))
-  pub letter_case : (first : Situation) → ComesTo first (codes "lotos-trace 2 s\n") (goes_on (opened first))
-  pub no_line_feed : (first : Situation) → ComesTo first (codes "lotos-trace 2 S") (goes_on (opened first))
-  pub no_step : (first : Situation) → ComesTo first (codes "lotos-trace 2 S\nat stop\n") (stops (in_line 2 bad_line))
+      ReplayOfTextComesTo first (codes "lotos-trace 2 Other\nno step\n") (stops (other_specification (codes "Other")))
+  pub letter_case : (first : Situation) → ReplayOfTextComesTo first (codes "lotos-trace 2 s\n") (goes_on (opened_progress first))
+  pub no_line_feed : (first : Situation) → ReplayOfTextComesTo first (codes "lotos-trace 2 S") (goes_on (opened_progress first))
+  pub no_step : (first : Situation) → ReplayOfTextComesTo first (codes "lotos-trace 2 S\nat stop\n") (stops (in_line 2 bad_line))
   pub other_state :
       (first : Situation) (next : Progress) →
       LeadsOn first next →
-      ComesTo first (codes "lotos-trace 2 S\n1 0 => g !0\nat stop\n")
+      ReplayOfTextComesTo first (codes "lotos-trace 2 S\n1 0 => g !0\nat stop\n")
       (stops (in_line 3 (state_differs (codes "stop") (codes "h !0; stop"))))
   pub missing_state :
       (first : Situation) (next : Progress) →
       LeadsOn first next →
-      ComesTo first (codes "lotos-trace 2 S\n1 0 => g !0\n") (stops (in_line 3 bad_line))
+      ReplayOfTextComesTo first (codes "lotos-trace 2 S\n1 0 => g !0\n") (stops (in_line 3 bad_line))
   pub step_for_state :
       (first : Situation) (next : Progress) →
       LeadsOn first next →
-      ComesTo first (codes "lotos-trace 2 S\n1 0 => g !0\n1 => h !0\n") (stops (in_line 3 bad_line))
+      ReplayOfTextComesTo first (codes "lotos-trace 2 S\n1 0 => g !0\n1 => h !0\n") (stops (in_line 3 bad_line))
   pub same_state :
       (first : Situation) (next : Progress) →
       LeadsOn first next →
-      ComesTo first (codes "lotos-trace 2 S\n1 0 => g !0\nat h !0; stop\n") (goes_on next)
+      ReplayOfTextComesTo first (codes "lotos-trace 2 S\n1 0 => g !0\nat h !0; stop\n") (goes_on next)
   pub plain :
       (first : Situation) (next : Progress) →
       LeadsOn first next →
-      ComesTo first (codes "lotos-trace 1\n1 0 => g !0\n") (goes_on next)
+      ReplayOfTextComesTo first (codes "lotos-trace 1\n1 0 => g !0\n") (goes_on next)
   pub state_in_plain :
       (first : Situation) (next : Progress) →
       LeadsOn first next →
-      ComesTo first (codes "lotos-trace 1\n1 0 => g !0\nat h !0; stop\n") (stops (in_line 3 bad_line))
+      ReplayOfTextComesTo first (codes "lotos-trace 1\n1 0 => g !0\nat h !0; stop\n") (stops (in_line 3 bad_line))

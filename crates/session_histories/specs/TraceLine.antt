@@ -60,12 +60,12 @@ with_terms number [] label = Some (record { number = number; terms = []; label =
 with_terms number (byte ∷ rest) label =
     if nat_eq 32 byte then Some (record { number = number; terms = rest; label = label }) else None
 
-abbrev pub with_number : List ℕ → List ℕ → List ℕ → Option StepLine
-with_number digits rest label = if is_number digits then with_terms (digits_value 10 digits) rest label else None
+abbrev pub step_with_number : List ℕ → List ℕ → List ℕ → Option StepLine
+step_with_number digits rest label = if is_number digits then with_terms (digits_value 10 digits) rest label else None
 
 abbrev pub with_arrow : Option AroundArrow → Option StepLine
 with_arrow None = None
-with_arrow (Some around) = with_number (first_digits around.before) (behind_digits around.before) around.behind
+with_arrow (Some around) = step_with_number (first_digits around.before) (behind_digits around.before) around.behind
 
 -- what a line says, if it has the form of a step: `N t, t => LABEL`, or `N => LABEL`. A line with a carriage return has it not
 abbrev pub has_return : List ℕ → Bool
@@ -85,16 +85,16 @@ kept_state line = behind_mark state_mark line
 
 -- What the first line says: it is no heading; the lines of steps alone follow; or lines of steps and states follow, of a
 -- specification with this name.
-pub data Heading : Type 0 where
-  no_heading : Heading
-  of_steps : Heading
-  of_states : (name : List ℕ) → Heading
+pub data TraceHeading : Type 0 where
+  no_heading : TraceHeading
+  of_steps : TraceHeading
+  of_states : (name : List ℕ) → TraceHeading
 
 -- a name has at least one byte
-abbrev pub with_name : Option (List ℕ) → Heading
-with_name None = no_heading
-with_name (Some []) = no_heading
-with_name (Some (byte ∷ bytes)) = of_states (byte ∷ bytes)
+abbrev pub heading_with_name : Option (List ℕ) → TraceHeading
+heading_with_name None = no_heading
+heading_with_name (Some []) = no_heading
+heading_with_name (Some (byte ∷ bytes)) = of_states (byte ∷ bytes)
 
-abbrev pub heading_of : List ℕ → Heading
-heading_of line = if bytes_eq line plain_heading then of_steps else with_name (behind_mark heading_mark line)
+abbrev pub trace_heading_of : List ℕ → TraceHeading
+trace_heading_of line = if bytes_eq line plain_heading then of_steps else heading_with_name (behind_mark heading_mark line)

@@ -9,7 +9,7 @@ use Rattle.behaviour_semantics.specs.Label.{Label}
 use Rattle.behaviour_semantics.specs.Replacement.{with_values, binding_of}
 use Rattle.lotos_top.specs.HandedOn.{Beginning, Progress, head_text, shown_menu, Asked, Founded, Founds, IsFounded, start_of}
 use Rattle.lotos_top.specs.HandedOn.{StartsWithValues, Acceptance, accepted_with, AcceptsText, IsAccepted, got_from, ComesOfPart, ComesOver}
-use Rattle.lotos_top.specs.HandedOn.{asked_for, GotFile, AreGotFrom, IsOpenedBy, Refused, with_spec, Comes, goes_on, unread, stops}
+use Rattle.lotos_top.specs.HandedOn.{asked_acceptance, GotFile, AreGotFrom, IsOpenedBy, Refused, with_spec, Comes, goes_on, unread, stops}
 use Rattle.lotos_top.specs.HandedOn.{wants_memory, Part, Then, Has, GetsFile, is_got, is_lacking, is_wanting, print, Finish, prints, serves}
 use Rattle.lotos_top.specs.HandedOn.{Done, Refusal, AreStartValues, IsStartFault}
 use Rattle.lotos_top.specs.Opening.{SessionBegins, opening_text}
@@ -56,7 +56,7 @@ abbrev Begun : List (List ℕ) → Founded → Part Refused Acceptance
 Begun words founded = Then (StartsWithValues founded words) (λ values. Has (accepted_with founded values))
 
 founded_with_values : (texts : Texts) (spec : List ℕ) (order : Option (List ℕ)) (words : List (List ℕ)) (acceptance : Acceptance)
-    → ComesOver texts (asked_for spec order words) (goes_on acceptance) → FoundedWith texts spec order words acceptance
+    → ComesOver texts (asked_acceptance spec order words) (goes_on acceptance) → FoundedWith texts spec order words acceptance
 founded_with_values texts spec order words acceptance over =
     let gets = went_on (GetsFile spec) (λ text. AcceptsText text order words) over.files acceptance over.came in
     let founds = went_on (Founds gets.found order) (Begun words) gets.later acceptance gets.second in
@@ -81,7 +81,7 @@ founded_with_values texts spec order words acceptance over =
 
 accepted_over : (texts : Texts) (spec : List ℕ) (order : Option (List ℕ)) (words : List (List ℕ)) (founded : Founded) (values : List Term)
     → FoundedOver texts spec order founded → AreStartValues (start_of founded.data_ founded.spec words) values
-    → ComesOver texts (asked_for spec order words) (goes_on (accepted_with founded values))
+    → ComesOver texts (asked_acceptance spec order words) (goes_on (accepted_with founded values))
 accepted_over texts spec order words founded values over starts =
     let gets = went_on (GetsFile spec) (λ text. Founds text order) over.files founded over.came in
     record {
@@ -155,7 +155,8 @@ module _ (texts : Texts) (spec : List ℕ) (order : Option (List ℕ)) (words : 
       (ap (λ (comes : Comes Refused Founded). value_or founded comes)
       (foundings_over_texts_are_one texts spec order (goes_on is.0) (goes_on founded) there over)) is.4
 
-  refused_of : (files : List GotFile) → AreGotFrom (got_from texts) files → IsAccepted (asked_for spec order words) files (stops told)
+  refused_of : (files : List GotFile) → AreGotFrom (got_from texts) files
+      → IsAccepted (asked_acceptance spec order words) files (stops told)
       → RefusedWith founded words told
   refused_of files all (inl is) = absurd (got_never_stops spec files (stops told) is tt)
   refused_of files all (inr is) =
@@ -163,7 +164,7 @@ module _ (texts : Texts) (spec : List ℕ) (order : Option (List ℕ)) (words : 
 
 refused_over : (texts : Texts) (spec : List ℕ) (order : Option (List ℕ)) (words : List (List ℕ)) (founded : Founded) (fault : Refusal)
     → FoundedOver texts spec order founded → IsStartFault (start_of founded.data_ founded.spec words) fault
-    → ComesOver texts (asked_for spec order words) (stops (with_spec founded.libraries founded.data_ founded.spec fault))
+    → ComesOver texts (asked_acceptance spec order words) (stops (with_spec founded.libraries founded.data_ founded.spec fault))
 refused_over texts spec order words founded fault over is =
     let gets = went_on (GetsFile spec) (λ text. Founds text order) over.files founded over.came in
     let told = with_spec founded.libraries founded.data_ founded.spec fault in
@@ -296,8 +297,10 @@ served begun (serves first) = first
 module _ (texts others : Texts) (spec again : List ℕ) (order other_order : Option (List ℕ)) (founded other : Founded)
     (over : FoundedOver texts spec order founded) (also : FoundedOver others again other_order other)
     (alike : AreFoundedAlike founded other) where
-  accepted_alike : (values : List (List ℕ)) (acceptance : Acceptance) → ComesOver texts (asked_for spec order values) (goes_on acceptance)
-      → (second : Acceptance) × ComesOver others (asked_for again other_order values) (goes_on second) × AreAcceptedAlike acceptance second
+  accepted_alike : (values : List (List ℕ)) (acceptance : Acceptance)
+      → ComesOver texts (asked_acceptance spec order values) (goes_on acceptance)
+      → (second : Acceptance) × ComesOver others (asked_acceptance again other_order values) (goes_on second)
+      × AreAcceptedAlike acceptance second
   accepted_alike words acceptance accepted =
       let is = founded_with_values texts spec order words acceptance accepted in
       let one : is.founded ≡ founded =
@@ -318,8 +321,8 @@ module _ (texts others : Texts) (spec again : List ℕ) (order other_order : Opt
             (record { spelled = alike.spelled; same = alike.same; same_items = alike.same_items; same_values = refl }),
       )
 
-  refused_alike : (values : List (List ℕ)) (told : Refused) → ComesOver texts (asked_for spec order values) (stops told)
-      → (second : Refused) × ComesOver others (asked_for again other_order values) (stops second) × (told.refusal ≡ second.refusal)
+  refused_alike : (values : List (List ℕ)) (told : Refused) → ComesOver texts (asked_acceptance spec order values) (stops told)
+      → (second : Refused) × ComesOver others (asked_acceptance again other_order values) (stops second) × (told.refusal ≡ second.refusal)
   refused_alike words told comes =
       let is = refused_of texts spec order words founded told over comes.files comes.got_files comes.came in
       let there : IsStartFault (start_of other.data_ other.spec words) is.fault =
@@ -335,11 +338,12 @@ module _ (texts others : Texts) (spec again : List ℕ) (order other_order : Opt
   -- a session that begins over the one, begins alike over the other
   record BeginsToo (words : List (List ℕ)) (begun : Beginning) : Type 0 where
     pub second : Acceptance
-    pub second_over : ComesOver others (asked_for again other_order words) (goes_on second)
+    pub second_over : ComesOver others (asked_acceptance again other_order words) (goes_on second)
     pub second_begins : SessionBegins second (session_over second begun)
     pub begin_so : BeginAlike begun (session_over second begun)
 
-  begins_too : (words : List (List ℕ)) (begun : Beginning) → BeginsOver texts (asked_for spec order words) begun → BeginsToo words begun
+  begins_too : (words : List (List ℕ)) (begun : Beginning) → BeginsOver texts (asked_acceptance spec order words) begun
+      → BeginsToo words begun
   begins_too words begun is =
       let there = accepted_alike words is.acceptance is.over in
       record {
@@ -354,27 +358,28 @@ module _ (texts others : Texts) (spec again : List ℕ) (order other_order : Opt
     acceptances = accepted_alike;
     refusals = refused_alike;
     reports = λ words report comes.
-        let opens = went_on (OpensAsked (asked_for spec order words)) (λ begun. Has (prints (print (opening_text begun) Done))) comes.files
+        let opens =
+        went_on (OpensAsked (asked_acceptance spec order words)) (λ begun. Has (prints (print (opening_text begun) Done))) comes.files
         (prints report) comes.came in
-        let is = begun_over texts (asked_for spec order words) opens.found opens.got opens.first
+        let is = begun_over texts (asked_acceptance spec order words) opens.found opens.got opens.first
         (got_first texts comes.files opens.got opens.later opens.cut comes.got_files) in
         let too = begins_too words opens.found is in
         record {
           files = too.second_over.files;
           came =
-              goes_then_nothing (OpensAsked (asked_for again other_order words))
+              goes_then_nothing (OpensAsked (asked_acceptance again other_order words))
               (λ begun. Has (prints (print (opening_text begun) Done))) (session_over too.second opens.found) too.second_over.files
               (goes_on (prints report))
-              (opens_over others (asked_for again other_order words) too.second (session_over too.second opens.found) too.second_over
+              (opens_over others (asked_acceptance again other_order words) too.second (session_over too.second opens.found) too.second_over
               too.second_begins)
               (refl, opens.second.1 ∙ ap (λ (text : List ℕ). prints (print text Done)) too.begin_so.same_opening);
           got_files = too.second_over.got_files;
           lacks = tt;
         };
     sessions = λ words begun comes.
-        let opens = went_on (OpensAsked (asked_for spec order words)) (λ first. Has (serves first)) comes.files (serves begun)
+        let opens = went_on (OpensAsked (asked_acceptance spec order words)) (λ first. Has (serves first)) comes.files (serves begun)
         comes.came in
-        let is = begun_over texts (asked_for spec order words) opens.found opens.got opens.first
+        let is = begun_over texts (asked_acceptance spec order words) opens.found opens.got opens.first
         (got_first texts comes.files opens.got opens.later opens.cut comes.got_files) in
         let too = begins_too words opens.found is in
         let one : begun ≡ opens.found = ap (λ (finish : Finish). served begun finish) opens.second.1 in (
@@ -382,9 +387,10 @@ module _ (texts others : Texts) (spec again : List ℕ) (order other_order : Opt
           record {
             files = too.second_over.files;
             came =
-                goes_then_nothing (OpensAsked (asked_for again other_order words)) (λ first. Has (serves first))
+                goes_then_nothing (OpensAsked (asked_acceptance again other_order words)) (λ first. Has (serves first))
                 (session_over too.second opens.found) too.second_over.files (goes_on (serves (session_over too.second opens.found)))
-                (opens_over others (asked_for again other_order words) too.second (session_over too.second opens.found) too.second_over
+                (opens_over others (asked_acceptance again other_order words) too.second (session_over too.second opens.found)
+                too.second_over
                 too.second_begins) (refl, refl);
             got_files = too.second_over.got_files;
             lacks = tt;

@@ -21,8 +21,9 @@ use Rattle.scope_parts.specs.Terms.{BindingIs, BindingsAre, let_names, LetIs, Of
 use Rattle.scope_parts.specs.Choices.{GateChoice, ParChoice, under_gates, under_par, under_values}
 use Rattle.scope_parts.specs.Behaviours.{SignIs, BehaviourIs}
 use Rattle.scope_parts.specs.Definitions.{Heading, DefinitionIs, InnerIs, InnersAre, SpecificationIs}
-use Rattle.flat_sentences.proofs.HandedOn.{one_value, beside_there}
+use Rattle.scope_parts.proofs.FormedLists.{same_resolved}
 use Rattle.flat_sentences.specs.HandedOn.{IsWordSpelling, names_of_variables, bound_names}
+use Rattle.flat_sentences.proofs.HandedOn.{beside_there}
 use Rattle.session_laws.specs.PrintedStates.{IsNamedProcess}
 use Rattle.session_laws.proofs.VariableSpellings.{IsVariableSpelled, IsOfferSpelled, IsLetSpelled, DeclaresWords, AreVariablesSpelled, IsInnerNamed, AreInnersNamed, IsTreeNamed}
 
@@ -49,13 +50,13 @@ variable_named signature number w x is spelled = by (sort_at signature w.sort_pl
     by : (sort : Resolution ℕ)
         → resolved x ≡ and_then sort (λ s. resolved (record { name = w.name; number = number; sort = s })) → IsWordSpelling x.name
     by (resolved s) is =
-        subst (λ (it : Variable). IsWordSpelling it.name) (sym (one_value x (record { name = w.name; number = number; sort = s }) is))
+        subst (λ (it : Variable). IsWordSpelling it.name) (sym (same_resolved x (record { name = w.name; number = number; sort = s }) is))
         spelled
     by (faulty fault) is = absurd (cc is)
 
 sorted_named : (signature : Signature) (next : ℕ) (ws : List WrittenVariable) (xs : List Variable)
     → resolved xs ≡ sorted_variables signature next ws → Every IsVariableSpelled ws → AreNamed xs
-sorted_named signature next [] xs is all = subst AreNamed (sym (one_value xs [] is)) tt
+sorted_named signature next [] xs is all = subst AreNamed (sym (same_resolved xs [] is)) tt
 sorted_named signature next (w ∷ ws) xs is all =
     by (variable_at signature next w) (λ x there. variable_named signature next w x there all.0)
     (sorted_variables signature (suc next) ws) (λ ys there. sorted_named signature (suc next) ws ys there all.1) is
@@ -63,7 +64,7 @@ sorted_named signature next (w ∷ ws) xs is all =
     by : (first : Resolution Variable) → ((x : Variable) → resolved x ≡ first → IsWordSpelling x.name)
         → (rest : Resolution (List Variable)) → ((ys : List Variable) → resolved ys ≡ rest → AreNamed ys)
         → resolved xs ≡ and_then first (λ x. put_in_front x rest) → AreNamed xs
-    by (resolved x) here (resolved ys) later is = subst AreNamed (sym (one_value xs (x ∷ ys) is)) (here x refl, later ys refl)
+    by (resolved x) here (resolved ys) later is = subst AreNamed (sym (same_resolved xs (x ∷ ys) is)) (here x refl, later ys refl)
     by (resolved x) here (faulty fault) later is = absurd (cc is)
     by (faulty fault) here rest later is = absurd (cc is)
 
@@ -93,7 +94,7 @@ offer_named signature scope number (offer_variable w) offer is spelled =
 offers_follow : (signature : Signature) (scope : List Variable) (next : ℕ) (ws : List WrittenOffer) (offers : List Offer)
     → OffersFollow signature scope next ws (resolved offers) → Every IsOfferSpelled ws → AreNamed (asked_variables offers)
 offers_follow signature scope next [] offers is all =
-    subst (λ (it : List Offer). AreNamed (asked_variables it)) (sym (one_value offers [] is)) tt
+    subst (λ (it : List Offer). AreNamed (asked_variables it)) (sym (same_resolved offers [] is)) tt
 offers_follow signature scope next (w ∷ ws) [] is all = absurd is.2
 offers_follow signature scope next (w ∷ ws) (offer ∷ offers) is all =
     one_more offer offers (subst AsksNamed (sym is.2.0) (offer_named signature scope next w is.0 is.1 all.0))
@@ -116,7 +117,7 @@ bindings_follow : (signature : Signature) (scope : List Variable) (next : ℕ) (
     (bindings : List (Variable × Term)) → BindingsAre signature scope next ws (resolved bindings) → Every IsLetSpelled ws
     → AreNamed (let_variables bindings)
 bindings_follow signature scope next [] bindings is all =
-    subst (λ (it : List (Variable × Term)). AreNamed (let_variables it)) (sym (one_value bindings [] is)) tt
+    subst (λ (it : List (Variable × Term)). AreNamed (let_variables it)) (sym (same_resolved bindings [] is)) tt
 bindings_follow signature scope next (w ∷ ws) [] is all = absurd is.2
 bindings_follow signature scope next (w ∷ ws) (bound ∷ bindings) is all = (
   subst (λ (it : Variable × Term). IsWordSpelling it.0.name) (sym is.2.0) (binding_named signature scope next w is.0 is.1 all.0),
@@ -169,7 +170,7 @@ module _ (signature : Signature) where
 
   behaviour_named : (w : WrittenBehaviour) (scope : Scope) (numbers : Numbers) (b : Behaviour)
       → BehaviourIs signature scope numbers w (resolved b) → AreVariablesSpelled w → BindsWords b
-  behaviour_named (written.stop place) scope numbers b is all = subst BindsWords (sym (one_value b stop is)) tt
+  behaviour_named (written.stop place) scope numbers b is all = subst BindsWords (sym (same_resolved b stop is)) tt
   behaviour_named (written.exit place values) scope numbers b is all = subst BindsWords (sym is.2) tt
   behaviour_named (written.call place name gates values) scope numbers b is all = subst BindsWords (sym is.2.2.2) tt
   behaviour_named (written.action place gate offers test next) scope numbers b is all =
@@ -212,7 +213,7 @@ module _ (signature : Signature) where
     inner_processes : (inner : WrittenInner) (visible : List Callable) (before : List Binding) (numbers : Numbers) (found : List Process)
         → InnerIs signature visible before numbers inner (resolved found) → IsInnerNamed inner → Every IsNamedProcess found
     inner_processes (inner_item item) visible before numbers found is all =
-        subst (Every IsNamedProcess) (sym (one_value found [] is)) tt
+        subst (Every IsNamedProcess) (sym (same_resolved found [] is)) tt
     inner_processes (process given body inner) visible before numbers found is all =
         subst (Every IsNamedProcess) (sym is.2.2.2) (
           record { name = all.0; variables = definition_named _ _ given body is.2.0 is.2.1 all.1 },
@@ -222,7 +223,7 @@ module _ (signature : Signature) where
     inners_processes : (inners : WrittenInners) (visible : List Callable) (before : List Binding) (numbers : Numbers)
         (found : List Process) → InnersAre signature visible before numbers inners (resolved found) → AreInnersNamed inners
         → Every IsNamedProcess found
-    inners_processes no_inner visible before numbers found is all = subst (Every IsNamedProcess) (sym (one_value found [] is)) tt
+    inners_processes no_inner visible before numbers found is all = subst (Every IsNamedProcess) (sym (same_resolved found [] is)) tt
     inners_processes (inner_then first others) visible before numbers found is all =
         subst (Every IsNamedProcess) (sym is.2.2)
         (Every-append IsNamedProcess is.0 is.2.0 (inner_processes first _ _ _ is.0 is.1 all.0)

@@ -13,7 +13,7 @@ use Rattle.behaviour_semantics.proofs.ListLemmas.{Every-append}
 use Rattle.scope_parts.specs.Numbering.{asked_for, accepted}
 use Rattle.scope_parts.specs.Terms.{let_names}
 use Rattle.flat_sentences.proofs.HandedOn.{declarations_have_the_next_number}
-use Rattle.flat_sentences.specs.HandedOn.{IsWordSpelling, variables_in, inner_variables, inners_variables, declared_variables}
+use Rattle.flat_sentences.specs.HandedOn.{IsWordSpelling, declared_variables_in, inner_variables, inners_variables, declared_variables}
 use Rattle.flat_sentences.specs.HandedOn.{all_variables_of, Follow, HasVariableNumber}
 use Rattle.flat_sentences.specs.FlatTextLaws.{HasSpecificationNames}
 use Rattle.flat_sentences.specs.BehaviourTextLaws.{IsVariableNamed}
@@ -47,30 +47,30 @@ in_sign (enabling given) all = all
 both : (xs ys : List WrittenVariable) → Every IsVariableSpelled xs → Every IsVariableSpelled ys → Every IsVariableSpelled (xs ++ ys)
 both xs ys first second = Every-append IsVariableSpelled xs ys first second
 
-in_behaviour : (w : WrittenBehaviour) → AreVariablesSpelled w → Every IsVariableSpelled (variables_in w)
+in_behaviour : (w : WrittenBehaviour) → AreVariablesSpelled w → Every IsVariableSpelled (declared_variables_in w)
 in_behaviour (stop place) all = tt
 in_behaviour (exit place values) all = tt
 in_behaviour (call place name gates values) all = tt
 in_behaviour (action place gate offers test next) all =
-    both (asked_for offers) (variables_in next) (in_offers offers all.0) (in_behaviour next all.1)
+    both (asked_for offers) (declared_variables_in next) (in_offers offers all.0) (in_behaviour next all.1)
 in_behaviour (inner_action place next) all = in_behaviour next all
 in_behaviour (guard place test next) all = in_behaviour next all
 in_behaviour (hide place gates inside) all = in_behaviour inside all
 in_behaviour (let_be place values inside) all =
-    both (let_names values) (variables_in inside) (in_let values all.0) (in_behaviour inside all.1)
-in_behaviour (choose_value place given inside) all = both given (variables_in inside) all.0 (in_behaviour inside all.1)
+    both (let_names values) (declared_variables_in inside) (in_let values all.0) (in_behaviour inside all.1)
+in_behaviour (choose_value place given inside) all = both given (declared_variables_in inside) all.0 (in_behaviour inside all.1)
 in_behaviour (choose_gate place gates inside) all = in_behaviour inside all
 in_behaviour (par_gate place gates sign inside) all = in_behaviour inside all
 in_behaviour (binary place sign left right) all =
-    both (variables_in left) (accepted sign ++ variables_in right) (in_behaviour left all.0)
-    (both (accepted sign) (variables_in right) (in_sign sign all.1) (in_behaviour right all.2))
+    both (declared_variables_in left) (accepted sign ++ declared_variables_in right) (in_behaviour left all.0)
+    (both (accepted sign) (declared_variables_in right) (in_sign sign all.1) (in_behaviour right all.2))
 
 mutual
   in_inner : (inner : WrittenInner) → IsInnerNamed inner → Every IsVariableSpelled (inner_variables inner)
   in_inner (inner_item item) all = tt
   in_inner (process given body inner) all =
-      both (given.parameters ++ variables_in body) (inners_variables inner)
-      (both given.parameters (variables_in body) all.3 (in_behaviour body all.1)) (in_inners inner all.2)
+      both (given.parameters ++ declared_variables_in body) (inners_variables inner)
+      (both given.parameters (declared_variables_in body) all.3 (in_behaviour body all.1)) (in_inners inner all.2)
 
   in_inners : (inners : WrittenInners) → AreInnersNamed inners → Every IsVariableSpelled (inners_variables inners)
   in_inners no_inner all = tt
@@ -81,8 +81,8 @@ declared_spelled : (tree : WrittenSpecification) → IsTreeNamed tree → Every 
 declared_spelled tree all =
     let inners : WrittenInners = processes_of (inners_of tree.inner) in
     let rest : List WrittenVariable = inners_variables (inners_of (without_items tree).inner) in
-    both (tree.heading.parameters ++ variables_in tree.body) rest
-    (both tree.heading.parameters (variables_in tree.body) all.parameters (in_behaviour tree.body all.body))
+    both (tree.heading.parameters ++ declared_variables_in tree.body) rest
+    (both tree.heading.parameters (declared_variables_in tree.body) all.parameters (in_behaviour tree.body all.body))
     (subst (λ (ws : WrittenInners). Every IsVariableSpelled (inners_variables ws)) (sym (listed-again inners))
     (in_inners inners (inners_keep (inners_of tree.inner) all.inner)))
 

@@ -1,9 +1,8 @@
 -- The sessions of an accepted specification end as it declares.
-use Rattle.std.proofs.Common.{ℕ, List, map, length, Option, refl, sym, subst, [], ◌∷◌}
+use Rattle.std.proofs.Common.{ℕ, List, map, length, Option, refl, sym, subst}
 use Rattle.lotos_base.specs.Equation.{Data}
 use Rattle.lotos_base.specs.Term.{Term}
 use Rattle.lotos_base.proofs.CanonLemmas.{canon_ground}
-use Rattle.lotos_base.specs.Canon.{IsCanon}
 use Rattle.syntax_trees.specs.WrittenDefinition.{WrittenSpecification}
 use Rattle.behaviour_semantics.specs.Behaviour.{Behaviour, Specification, sorts_of}
 use Rattle.behaviour_semantics.specs.Label.{exit_event}
@@ -11,6 +10,7 @@ use Rattle.behaviour_semantics.specs.Rule.{AreValues, as_given}
 use Rattle.behaviour_semantics.specs.Transition.{Transition}
 use Rattle.behaviour_semantics.specs.TransitionLaws.{TransitionsAreDerived}
 use Rattle.behaviour_semantics.specs.WellFormed.{IsSpecification}
+use Rattle.behaviour_semantics.proofs.SupplyLemmas.{canon_values}
 use Rattle.flat_sentences.specs.HandedOn.{EndsWithin, AllAgree, EndsWith, ExitsHaveTheirSorts, NoDisagreementIsAgreement, LeadTo, Situation}
 use Rattle.flat_sentences.specs.HandedOn.{derivations_of, SessionsFollowDerivations, IsStateOver}
 use Rattle.lotos_top.specs.HandedOn.{Beginning, Standing, IsReached, Asked, Founded, FoundedBy, Acceptance, IsAccepted, start_of, goes_on}
@@ -55,14 +55,6 @@ accepted_sound agreement ground asked files acceptance is =
     })
 
 -- ---- Where the session stands
-
-canon_values : (data_ : Data) (canon : Term → Term) → IsCanon data_ canon → (sorts : List ℕ) (values : List Term)
-    → AreValues data_.signature sorts values → AreValues data_.signature sorts (map canon values)
-canon_values data_ canon is [] [] fit = tt
-canon_values data_ canon is [] (value ∷ values) fit = absurd fit
-canon_values data_ canon is (sort ∷ sorts) [] fit = absurd fit
-canon_values data_ canon is (sort ∷ sorts) (value ∷ values) fit =
-    (canon_ground data_ canon value sort is fit.0, canon_values data_ canon is sorts values fit.1)
 
 module _ (exits : ExitsHaveTheirSorts) (follow : SessionsFollowDerivations) (derived : TransitionsAreDerived) (begun : Beginning)
     (standing : Standing) (over : IsStateOver begun.basis begun.progress.situation.state) (is : IsReached begun standing)

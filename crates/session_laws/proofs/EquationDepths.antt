@@ -11,8 +11,9 @@ use Rattle.syntax_trees.specs.WrittenItem.{WrittenTypeBody, extends, renames, ac
 use Rattle.sort_terms.specs.ReadingOutcome.{one_name, unknown_in, SortedTerm, IsReading}
 use Rattle.behaviour_semantics.specs.WellFormed.{Every}
 use Rattle.behaviour_semantics.proofs.ListLemmas.{Every-append}
+use Rattle.sort_terms.proofs.OutcomeLemmas.{is_reading}
 use Rattle.flat_sentences.specs.HandedOn.{term_depth, depth_among}
-use Rattle.flat_sentences.proofs.HandedOn.{IsShallow, shallow_parts, term_within, answer_is}
+use Rattle.flat_sentences.proofs.HandedOn.{IsShallow, shallow_parts, term_within}
 use Rattle.type_definitions.specs.DeclaredTypes.{DeclaredType}
 use Rattle.type_definitions.specs.Images.{term_image, terms_image, equation_image}
 use Rattle.type_definitions.specs.Presentation.{Presentation, nothing, with_new, is_same_equation}
@@ -99,7 +100,7 @@ module _ (limit : ℕ) where
   side_fits p asked (written head ws) t is shallow order =
       let reading : SortedTerm = is.0 in
       let reads : IsReading p.signature (scope_of p asked) (written head ws) (Some (sort_numbered p asked.sort)) reading =
-      answer_is (unknown_in p.signature (scope_of p asked) (written head ws)) head.place
+      is_reading (unknown_in p.signature (scope_of p asked) (written head ws)) head.place
       (IsReading p.signature (scope_of p asked) (written head ws) (Some (sort_numbered p asked.sort))) reading is.1 in
       let deep = term_within p.signature (scope_of p asked) limit 1 (written head ws) reading.term reading.sort reads.0 shallow in
       let here : term_depth reading.term ≤ limit = omega (arith, deep) in

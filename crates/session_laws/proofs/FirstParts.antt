@@ -5,8 +5,9 @@ use Rattle.lotos_top.specs.HandedOn.{Acceptance, Asked, IsAccepted, AcceptsText,
 use Rattle.lotos_top.specs.HandedOn.{AreGotFrom, got_from, Comes, goes_on, unread, stops, wants_memory, Part, Then, Telling, Lacks}
 use Rattle.lotos_top.specs.HandedOn.{ComesOfPart, ComesOver, StartsWithValues, Has, accepted_with, Refused, Print, Finish, refusal_printed}
 use Rattle.lotos_top.specs.Opening.{SessionBegins}
-use Rattle.lotos_top.specs.Parts.{Finds, Opens, OpensAsked}
-use Rattle.session_laws.proofs.WentOn.{front, back, together, goes_then}
+use Rattle.lotos_top.specs.Parts.{Finds, OpensSession, OpensAsked}
+use Rattle.lotos_top.proofs.HandedOn.{front, back}
+use Rattle.session_laws.proofs.WentOn.{together, goes_then}
 
 -- something comes of the part over these texts
 abbrev Something : {E B : Type 0} → Texts → Part E B → Type 0
@@ -86,7 +87,7 @@ module _ (texts : Texts) where
       → ComesOfPart texts (Then (OpensAsked asked) next) comes → Something texts (IsAccepted asked)
   acceptance_in asked next comes over =
       let opens = part_comes (OpensAsked asked) next over.files comes over.came over.got_files over.lacks in
-      let told = told_comes (refusal_printed asked.spec asked.order) (Opens (IsAccepted asked)) opens.1.files opens.0 opens.1.came
+      let told = told_comes (refusal_printed asked.spec asked.order) (OpensSession (IsAccepted asked)) opens.1.files opens.0 opens.1.came
       opens.1.got_files opens.1.lacks in
       part_comes (IsAccepted asked) (λ acceptance. Finds (SessionBegins acceptance)) told.1.files told.0 told.1.came told.1.got_files
       told.1.lacks

@@ -8,15 +8,16 @@ use Rattle.std.proofs.lemmas.Option.{none-some, same_Some}
 use Rattle.lotos_base.specs.Equation.{Variable, Equation, Data, IsEquation, IsWellFormedData}
 use Rattle.lotos_base.specs.Limits.{text_limit}
 use Rattle.lotos_base.specs.Signature.{Signature, Sort, Operation}
-use Rattle.lotos_base.specs.Sorting.{sort_of}
+use Rattle.lotos_base.specs.Sorting.{head_sort_of}
 use Rattle.behaviour_semantics.specs.Behaviour.{Process, Specification}
 use Rattle.flat_sentences.specs.DataLaws.{HasFewVariables}
 use Rattle.flat_sentences.specs.HandedOn.{line, sorts_lines, operation_line, operations_lines, equations_lines, equation_line, for_all}
-use Rattle.flat_sentences.specs.HandedOn.{sorted_variable, sort_if_any, data_lines, data_text, given_behind, given_names, free_names}
-use Rattle.flat_sentences.specs.HandedOn.{equation_names, operation_names, named, renamed_variables, least_free, given_name, heading}
+use Rattle.flat_sentences.specs.HandedOn.{sorted_variable, sort_if_any, data_lines, data_text, given_names, free_names}
+use Rattle.flat_sentences.specs.HandedOn.{equation_names, operation_names, variables_under_names, renamed_variables, least_free, heading}
 use Rattle.flat_sentences.specs.HandedOn.{process_lines, processes_lines, where_lines, flat_naming, flat_text, Naming, process_names}
 use Rattle.flat_sentences.specs.HandedOn.{behaviour_text, commas, after_commas, term_text}
 use Rattle.flat_sentences.proofs.Given.{sort_within}
+use Rattle.flat_sentences.proofs.HandedOn.{each_given}
 
 -- ---- Lists
 
@@ -50,7 +51,7 @@ free_long : (taken : List (List ℕ)) (count number : ℕ) → length (free_name
 free_long taken zero number = refl
 free_long taken (suc count) number = ap suc (free_long taken count (suc (least_free taken (codes "v") number)))
 
-named_long : (names : List (List ℕ)) (xs : List Variable) → length names ≡ length xs → length (named names xs) ≡ length xs
+named_long : (names : List (List ℕ)) (xs : List Variable) → length names ≡ length xs → length (variables_under_names names xs) ≡ length xs
 named_long [] [] same = refl
 named_long [] (x ∷ xs) same = absurd (omega (arith, same))
 named_long (name ∷ names) [] same = absurd (omega (arith, same))
@@ -76,7 +77,7 @@ equation_long : (signature : Signature) (e : Equation) → length e.variables �
 equation_long signature e =
     let xs : List Variable = renamed_variables signature e in
     let n : ℕ = length e.variables in
-    let sort : List ℕ = sort_if_any signature (sort_of signature e.left) in
+    let sort : List ℕ = sort_if_any signature (head_sort_of signature e.left) in
     let head : List ℕ = codes "ofsort " ++ sort ++ codes " " in
     let declared : List ℕ = head ++ for_all signature xs in
     let left : List ℕ = declared ++ term_text signature xs e.left in
@@ -164,11 +165,6 @@ operations_within data_ well (s ∷ ss) is =
 
 -- ---- Processes
 
-given_long : (earlier taken names : List (List ℕ)) → length (given_behind earlier taken names) ≡ length names
-given_long earlier taken [] = refl
-given_long earlier taken (name ∷ names) =
-    ap suc (given_long (name ∷ earlier) (given_name earlier taken name ∷ taken) names)
-
 module _ (naming : Naming) where
   process_some : (name : List ℕ) (p : Process) → 1 ≤ length (process_lines naming name p)
   process_some name p =
@@ -226,7 +222,7 @@ module _ (data_ : Data) (spec : Specification) where
   processes_within =
       let n : ℕ = length spec.processes in
       let same : length names ≡ n =
-      given_long [] (process_names spec) (process_names spec) ∙ mapped_long (λ (p : Process). p.name) spec.processes in
+      each_given [] (process_names spec) (process_names spec) ∙ mapped_long (λ (p : Process). p.name) spec.processes in
       let before : List ℕ = heading_line ++ data_text data_ ++ body_line in
       long_left n (before ++ processes) (line (codes "endspec"))
       (long_right n before processes (where_long naming names spec.processes same))

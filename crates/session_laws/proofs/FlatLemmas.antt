@@ -5,7 +5,7 @@ use Rattle.lotos_base.specs.Limits.{text_limit}
 use Rattle.lotos_base.specs.Outside.{Texts}
 use Rattle.flat_sentences.specs.HandedOn.{flat_text, NoDisagreementIsAgreement}
 use Rattle.lotos_top.specs.Flattening.{flat_printed}
-use Rattle.lotos_top.specs.HandedOn.{Beginning, Founded, IsFounded, asked_for, Comes, goes_on, Has, Telling, ComesOfPart, Refused, Print}
+use Rattle.lotos_top.specs.HandedOn.{Beginning, Founded, IsFounded, asked_acceptance, Comes, goes_on, Has, Telling, ComesOfPart, Refused, Print}
 use Rattle.lotos_top.specs.HandedOn.{print, Finish, prints, serves, refusal_printed, Done}
 use Rattle.lotos_top.specs.Opening.{opening_text}
 use Rattle.lotos_top.proofs.HandedOn.{outcomes_over_texts_are_one}
@@ -13,7 +13,7 @@ use Rattle.session_laws.specs.Alike.{AreFoundedAlike}
 use Rattle.session_laws.specs.AlikeLaws.{FoundedOver, RunAlike}
 use Rattle.session_laws.specs.FlatRuns.{FlattenedTextsStandForTheSame, HasTextOfName, ComesAlike, FlatTextsRunAlike}
 use Rattle.session_laws.specs.OneBeginning.{SessionsBeginOnce}
-use Rattle.session_laws.specs.ReadBack.{IsReadBack, StandsUnder}
+use Rattle.session_laws.specs.ReadBack.{IsReadBack, IsGotUnder}
 use Rattle.session_laws.proofs.AlikeLemmas.{what_is_founded_alike_runs_alike}
 use Rattle.session_laws.proofs.FirstParts.{founding_in, acceptance_in}
 use Rattle.session_laws.proofs.OneWork.{work_is_one}
@@ -29,7 +29,7 @@ take_all (suc n) [] within = refl
 take_all (suc n) (x ∷ xs) within = ap (λ (ys : List ℕ). x ∷ ys) (take_all n xs (omega (arith, within)))
 
 stands_under : (texts others : Texts) (name : List ℕ) (order : Option (List ℕ)) (text : List ℕ) → length text ≤ text_limit
-    → HasTextOfName texts others name order text → StandsUnder texts others name order text
+    → HasTextOfName texts others name order text → IsGotUnder texts others name order text
 stands_under texts others name order text within has = record {
   got =
       ap (λ (o : Option (List ℕ)). option_map (λ (bytes : List ℕ). take (text_limit + 1) bytes) o) has.there
@@ -41,7 +41,7 @@ stands_under texts others name order text within has = record {
 
 module _ (laws : NoDisagreementIsAgreement) (once : SessionsBeginOnce) (texts others : Texts) (spec name : List ℕ)
     (order : Option (List ℕ)) (founded : Founded) (text : List ℕ) (over : FoundedOver texts spec order founded)
-    (under : StandsUnder texts others name order text) (read : IsReadBack founded text) where
+    (under : IsGotUnder texts others name order text) (read : IsReadBack founded text) where
   -- it is accepted alike, and runs alike
   record AcceptedAgain : Type 0 where
     pub other : Founded
@@ -65,36 +65,37 @@ module _ (laws : NoDisagreementIsAgreement) (once : SessionsBeginOnce) (texts ot
   comes_alike = record {
     founds = λ comes is. texts_read_back_are_accepted laws texts others spec name order founded text comes over under read is;
     accepts = λ values acceptance comes first second.
-        let found = founding_in others (asked_for name order values) comes second in
+        let found = founding_in others (asked_acceptance name order values) comes second in
         let again = accepted_again found.0 found.1 in
         let there = again.runs.acceptances values acceptance first in (
           there.0,
-          outcomes_over_texts_are_one others (asked_for name order values) comes (goes_on there.0) second there.1,
+          outcomes_over_texts_are_one others (asked_acceptance name order values) comes (goes_on there.0) second there.1,
           there.2,
         );
     refuses = λ values told comes first second.
-        let found = founding_in others (asked_for name order values) comes second in
+        let found = founding_in others (asked_acceptance name order values) comes second in
         let again = accepted_again found.0 found.1 in
         let there = again.runs.refusals values told first in (
           there.0,
-          outcomes_over_texts_are_one others (asked_for name order values) comes _ second there.1,
+          outcomes_over_texts_are_one others (asked_acceptance name order values) comes _ second there.1,
           there.2,
         );
     checks = λ values report comes first second.
         let next = λ (begun : Beginning). Has (prints (print (opening_text begun) Done)) in
-        let accepts = acceptance_in others (asked_for name order values) next comes second in
-        let found = founding_in others (asked_for name order values) accepts.0 accepts.1 in
+        let accepts = acceptance_in others (asked_acceptance name order values) next comes second in
+        let found = founding_in others (asked_acceptance name order values) accepts.0 accepts.1 in
         let again = accepted_again found.0 found.1 in
-        work_is_one once others (asked_for name order values) (λ (begun : Beginning). prints (print (opening_text begun) Done))
+        work_is_one once others (asked_acceptance name order values) (λ (begun : Beginning). prints (print (opening_text begun) Done))
         (prints report) comes (again.runs.reports values report first) second;
     runs = λ values begun comes first second.
         let next = λ (first_ : Beginning). Has (serves first_) in
-        let accepts = acceptance_in others (asked_for name order values) next comes second in
-        let found = founding_in others (asked_for name order values) accepts.0 accepts.1 in
+        let accepts = acceptance_in others (asked_acceptance name order values) next comes second in
+        let found = founding_in others (asked_acceptance name order values) accepts.0 accepts.1 in
         let again = accepted_again found.0 found.1 in
         let there = again.runs.sessions values begun first in (
           there.0,
-          work_is_one once others (asked_for name order values) (λ (first_ : Beginning). serves first_) (serves there.0) comes there.1
+          work_is_one once others (asked_acceptance name order values) (λ (first_ : Beginning). serves first_)
+              (serves there.0) comes there.1
               second,
           there.2,
         );
@@ -125,7 +126,7 @@ flat_texts_run_alike laws once read_back texts spec order report comes =
       over = over;
       is_flat = is_flat;
       again = λ within others name has.
-          let under : StandsUnder texts others name order (flat_text founded.data_ founded.spec) =
+          let under : IsGotUnder texts others name order (flat_text founded.data_ founded.spec) =
           stands_under texts others name order (flat_text founded.data_ founded.spec)
           (subst (λ (t : List ℕ). length t ≤ text_limit) is_text within)
           (subst (λ (t : List ℕ). HasTextOfName texts others name order t) is_text has) in

@@ -3,27 +3,27 @@ use Rattle.std.proofs.Common.{◌≡◌, ℕ, zero, suc, Bool, true, false, not,
 use Rattle.std.specs.Prelude.{fold, slice_get, IfSome}
 use Rattle.std.specs.List.{list_any}
 use Rattle.std.specs.Option.{option_to_list}
-use Rattle.std.proofs.lemmas.Option.{same_Some}
 use Rattle.lotos_base.specs.Equation.{Data}
 use Rattle.lotos_base.specs.Signature.{Signature, Sort, Operation, IsOperation, Form, prefix_form, infix_form}
 use Rattle.lotos_base.specs.WrittenTerm.{PlacedName}
 use Rattle.syntax_trees.specs.WrittenItem.{WrittenOperation, WrittenPair, WrittenPairs, WrittenSections, WrittenTypeBody, extends, renames, actualises}
 use Rattle.sort_terms.specs.ReadingOutcome.{one_name}
 use Rattle.type_definitions.specs.TypeFault.{fault_along}
-use Rattle.type_definitions.specs.Presentation.{Presentation, nothing, is_same_sort, is_same_operation, with_new, is_marked}
+use Rattle.type_definitions.specs.Presentation.{Presentation, nothing, is_same_sort, is_same_operation, with_new, is_marked_number}
 use Rattle.type_definitions.specs.Images.{operation_image}
-use Rattle.type_definitions.specs.Union.{Mentioned, joined_sort, coming_operations, joined, with_mentioned, union_of, union_fault}
+use Rattle.type_definitions.specs.Union.{Mentioned, joined_sort, coming_operations, joined_presentation, with_mentioned, union_of, union_fault}
 use Rattle.type_definitions.specs.Declarations.{with_sort, with_operation, fits_form, operation_fault, with_formal_sorts, with_sorts, with_formal_operations, with_declarations, declaration_fault}
 use Rattle.type_definitions.specs.DeclaredEquations.{EquationQuestion, GivesPresentation, sort_is_there, formal_is_read, own_is_read, GiveAll, none_asked, next_gives}
 use Rattle.type_definitions.specs.Extension.{extended, IsExtension}
-use Rattle.type_definitions.specs.Renaming.{pair_for, sort_under, operation_under, renamed_sort, renamed_operation, renaming}
-use Rattle.type_definitions.specs.Actualisation.{Actualising, unmarked_from, is_formal, unless, other_sort_image, other_operation_image, is_formal_sort, is_formal_operation, actualised_sort, other_sorts_of, other_operations_of, actualisation}
+use Rattle.type_definitions.specs.Renaming.{pair_for, sort_under, operation_under, renamed_sort, renamed_operation, renamed_presentation}
+use Rattle.type_definitions.specs.Actualisation.{Actualising, unmarked_from, is_formal, pair_unless, other_sort_image, other_operation_image, is_formal_sort, is_formal_operation, actualised_sort, other_sorts_of, other_operations_of, actualisation}
 use Rattle.type_definitions.specs.ActualisationFaults.{actualising_of}
 use Rattle.type_definitions.specs.DeclaredTypes.{DeclaredType}
 use Rattle.type_definitions.specs.Flattened.{presentation_named, mention_of, mentions_with, IsPresentation, declared_with, ArePresented, all_presented, next_presented, without_formals, types_at, IsFlattening}
 use Rattle.type_definitions.proofs.FaultLemmas.{none_first, not_past}
 use Rattle.behaviour_semantics.specs.WellFormed.{Every}
 use Rattle.behaviour_semantics.proofs.ListLemmas.{Every-append}
+use Rattle.behaviour_semantics.proofs.InstanceLemmas.{every_at}
 use Rattle.flat_sentences.specs.HandedOn.{IsWordSpelling, IsOperationSpelling, HasTextNames}
 use Rattle.session_laws.proofs.WrittenNames.{IsWord, IsOperatorDeclared, GivesWord, GivesOperator, ArePairsSpelled, AreSectionsSpelled, IsBodySpelled}
 use Rattle.session_laws.proofs.GatheredNames.{IsTypeSpelled}
@@ -75,7 +75,7 @@ mapped_long f (x ∷ xs) = ap suc (mapped_long f xs)
 image_spelled : (f : ℕ → ℕ) (operation : Operation) → IsOperationSpelled operation → IsOperationSpelled (operation_image f operation)
 image_spelled f operation is = record { name = is.name; two = λ form. mapped_long f operation.arguments ∙ is.two form }
 
-joined_spelled : (p q : Presentation) → IsPresentationSpelled p → IsPresentationSpelled q → IsPresentationSpelled (joined p q)
+joined_spelled : (p q : Presentation) → IsPresentationSpelled p → IsPresentationSpelled q → IsPresentationSpelled (joined_presentation p q)
 joined_spelled p q is also = record {
   sorts = new_every IsSortSpelled is_same_sort p.signature.sorts q.signature.sorts is.sorts also.sorts;
   operations =
@@ -195,7 +195,7 @@ operation_under_spelled type_name None operation pair is = is
 operation_under_spelled type_name (Some it) operation pair is = record { name = pair; two = is.two }
 
 renamed_spelled : (base : Presentation) (name : List ℕ) (pairs : WrittenPairs) → IsPresentationSpelled base → ArePairsSpelled pairs
-    → IsPresentationSpelled (renaming base name pairs)
+    → IsPresentationSpelled (renamed_presentation base name pairs)
 renamed_spelled base name pairs is all = record {
   sorts = mapped_every IsSortSpelled IsSortSpelled (renamed_sort name pairs)
       (λ sort spelled. sort_under_spelled name (pair_for pairs.sort_pairs sort.name) sort
@@ -211,14 +211,14 @@ renamed_spelled base name pairs is all = record {
 unmarked_every : {A : Type 0} (P : A → Type 0) (marks : List ℕ) (number : ℕ) (xs : List A) → Every P xs
     → Every P (unmarked_from marks number xs)
 unmarked_every P marks number [] all = tt
-unmarked_every P marks number (x ∷ xs) all = by (is_marked marks number) (unmarked_every P marks (suc number) xs all.1)
+unmarked_every P marks number (x ∷ xs) all = by (is_marked_number marks number) (unmarked_every P marks (suc number) xs all.1)
   where
     by : (marked : Bool) → Every P (unmarked_from marks (suc number) xs)
         → Every P (if marked then unmarked_from marks (suc number) xs else x ∷ unmarked_from marks (suc number) xs)
     by true more = more
     by false more = (all.0, more)
 
-unless_given : (P : WrittenPair → Type 0) (test : Bool) (found : Option WrittenPair) → IfSome found P → IfSome (unless test found) P
+unless_given : (P : WrittenPair → Type 0) (test : Bool) (found : Option WrittenPair) → IfSome found P → IfSome (pair_unless test found) P
 unless_given P true found is = tt
 unless_given P false found is = is
 
@@ -229,7 +229,7 @@ actualised_spelled a base actual all = record {
       new_every IsSortSpelled is_same_sort a.actual.signature.sorts _ actual.sorts
       (mapped_every IsSortSpelled IsSortSpelled (other_sort_image a)
       (λ sort spelled. sort_under_spelled a.type_name
-      (unless (is_formal_sort a.base.presentation sort.name) (pair_for a.pairs.sort_pairs sort.name)) sort
+      (pair_unless (is_formal_sort a.base.presentation sort.name) (pair_for a.pairs.sort_pairs sort.name)) sort
       (unless_given GivesWord (is_formal_sort a.base.presentation sort.name) (pair_for a.pairs.sort_pairs sort.name)
       (pair_given GivesWord a.pairs.sort_pairs sort.name all.sort_pairs)) spelled)
       (other_sorts_of a.base.presentation)
@@ -238,7 +238,7 @@ actualised_spelled a base actual all = record {
       new_every IsOperationSpelled is_same_operation a.actual.signature.operations _ actual.operations
       (mapped_every IsOperationSpelled IsOperationSpelled (other_operation_image a)
       (λ operation spelled. operation_under_spelled a.type_name
-      (unless (is_formal_operation a.base.presentation operation.name) (pair_for a.pairs.operation_pairs operation.name))
+      (pair_unless (is_formal_operation a.base.presentation operation.name) (pair_for a.pairs.operation_pairs operation.name))
       (operation_image (actualised_sort a) operation)
       (unless_given GivesOperator (is_formal_operation a.base.presentation operation.name)
       (pair_for a.pairs.operation_pairs operation.name)
@@ -308,17 +308,12 @@ informal_every (t ∷ ts) spelled = by (is_formal t.presentation) (informal_ever
     by true more = more
     by false more = (spelled.0, more)
 
-every_at : {A : Type 0} (P : A → Type 0) (xs : List A) → Every P xs → (k : ℕ) (x : A) → slice_get xs k ≡ Some x → P x
-every_at P [] all k x found = absurd (cc found)
-every_at P (y ∷ ys) all zero x found = subst P (same_Some y x found) all.0
-every_at P (y ∷ ys) all (suc k) x found = every_at P ys all.1 k x found
-
 pub data_spelled : (types : List DeclaredType) (data_ : Data) → Every IsTypeSpelled types → IsFlattening types data_
     → HasTextNames data_.signature
 data_spelled types data_ spelled is =
     subst (λ (it : Data). HasTextNames it.signature) is.answered (record {
       operations = λ f o found. (there f o found).name;
-      sorts = λ n s found. every_at IsSortSpelled (union_of (without_formals is.all)).signature.sorts whole.sorts n s found;
+      sorts = λ n s found. every_at IsSortSpelled (union_of (without_formals is.all)).signature.sorts n s whole.sorts found;
       infix_operations =
           λ f o found form. (there f o found).two form;
     })
@@ -331,4 +326,4 @@ data_spelled types data_ spelled is =
 
     there : (f : ℕ) (o : Operation) → IsOperation (union_of (without_formals is.all)).signature f o → IsOperationSpelled o
     there f o found =
-        every_at IsOperationSpelled (union_of (without_formals is.all)).signature.operations whole.operations f o found
+        every_at IsOperationSpelled (union_of (without_formals is.all)).signature.operations f o whole.operations found

@@ -10,10 +10,9 @@ use Rattle.lotos_top.specs.HandedOn.{EndsSo, IsDetermined, Lacks, Founded, IsFou
 use Rattle.lotos_top.specs.HandedOn.{ReadsSpecification, Gathers, Flattens, Resolves, StandsFor, Breaks, scopes_told, HaveData}
 use Rattle.lotos_top.specs.HandedOn.{HaveFault, types_told, KeepsSpecification, FunctionalityFault, differ_at, Disagree}
 use Rattle.lotos_top.specs.HandedOn.{Refused}
-use Rattle.lotos_top.proofs.HandedOn.{AfterScopes, AfterData, AfterTypes, value_or, looks_determined, gets_determined}
+use Rattle.lotos_top.proofs.HandedOn.{AfterScopes, AfterData, AfterTypes, value_or, looks_determined, gets_determined, front, back}
 use Rattle.lotos_top.proofs.HandedOn.{reads_determined, gathers_determined, types_are_decided, scopes_are_decided}
 use Rattle.session_laws.specs.ReadBack.{IsResolvedAs}
-use Rattle.session_laws.proofs.WentOn.{front, back}
 
 -- ---- Behind a part that goes on
 

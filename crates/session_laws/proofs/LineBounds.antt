@@ -4,8 +4,8 @@ use Rattle.lotos_base.specs.Term.{Term}
 use Rattle.behaviour_semantics.specs.WellFormed.{Every}
 use Rattle.behaviour_semantics.specs.Label.{Label}
 use Rattle.sentence_trees.specs.Reading.{node_limit}
-use Rattle.flat_sentences.specs.HandedOn.{term_depth, IsWithinLine, SessionBasis, Situation, PastStep, Progress, items_of, stepped, opened}
-use Rattle.flat_sentences.specs.HandedOn.{HasStepped, lines_of, Heading, no_heading, of_steps, of_states, goes_on, is_miscounted}
+use Rattle.flat_sentences.specs.HandedOn.{term_depth, IsWithinLine, SessionBasis, Situation, PastStep, Progress, items_of, stepped, opened_progress}
+use Rattle.flat_sentences.specs.HandedOn.{HasStepped, lines_of, TraceHeading, no_heading, of_steps, of_states, goes_on, is_miscounted}
 use Rattle.flat_sentences.specs.HandedOn.{is_misread, is_unmet, is_replayed, LinesComeTo, all_done, one_goes_on, StatedLinesComeTo}
 use Rattle.flat_sentences.specs.HandedOn.{all_stated, both_go_on, ComeBehindName, ComeBehind}
 use Rattle.line_server.specs.Request.{Request, skip, show_menu, show_behaviour, show_trace, undo, leave, no_request, take_step, save, replay, show_normal, compare, list_values, list_instances, request_of}
@@ -79,13 +79,13 @@ stated_within basis (line ∷ state ∷ lines) number progress new within (both_
 
 named_within : (basis : SessionBasis) (first : Situation) (same : Bool) (kept : List ℕ) (lines : List (List ℕ)) (new : Progress)
     → ComeBehindName basis first same kept lines (goes_on new) → IsWithinLines new
-named_within basis first true kept lines new comes = stated_within basis lines 2 (opened first) new tt comes
+named_within basis first true kept lines new comes = stated_within basis lines 2 (opened_progress first) new tt comes
 named_within basis first false kept lines new comes = absurd (cc comes)
 
-behind_within : (basis : SessionBasis) (first : Situation) (heading : Heading) (lines : List (List ℕ)) (new : Progress)
+behind_within : (basis : SessionBasis) (first : Situation) (heading : TraceHeading) (lines : List (List ℕ)) (new : Progress)
     → ComeBehind basis first heading lines (goes_on new) → IsWithinLines new
 behind_within basis first no_heading lines new comes = absurd (cc comes)
-behind_within basis first of_steps lines new comes = lines_within basis lines 2 (opened first) new tt comes
+behind_within basis first of_steps lines new comes = lines_within basis lines 2 (opened_progress first) new tt comes
 behind_within basis first (of_states kept) lines new comes = named_within basis first _ kept lines new comes
 
 replay_within : (basis : SessionBasis) (first : Situation) (lines : List (List ℕ)) (new : Progress)

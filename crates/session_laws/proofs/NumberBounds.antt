@@ -8,11 +8,13 @@ use Rattle.std.proofs.Math.Nat.{pow-le-pow_right}
 use Rattle.std.proofs.lemmas.Bool.{and_parts}
 use Rattle.std.proofs.lemmas.Option.{same_Some}
 use Rattle.lotos_base.proofs.Digits.{digit_is, digit_value_is, one_digit_more}
+use Rattle.lotos_base.proofs.Truth.{unit}
 use Rattle.line_server.specs.Line.{first_word, behind_word, stripped}
 use Rattle.line_server.specs.Request as request
-use Rattle.line_server.specs.Request.{Request, show_menu, show_behaviour, show_trace, undo, leave, take_step, save, replay, only, number_in, step_by, values_by, instances_by, with_name, asked_with, requested_by, requested_in, request_of}
+use Rattle.line_server.specs.Request.{Request, show_menu, show_behaviour, show_trace, undo, leave, take_step, save, replay, only, number_in_word, step_by, values_request_by, instances_by, request_with_name, asked_with, requested_by, requested_in, request_of}
 use Rattle.flat_sentences.specs.HandedOn.{StepLine, AroundArrow, is_number, leads_with_zero, step_line, has_return, with_arrow}
 use Rattle.flat_sentences.specs.HandedOn.{around_arrow, with_terms, first_digits, behind_digits}
+use Rattle.flat_sentences.proofs.HandedOn.{all_are_digits}
 
 abbrev pub ten_digits : ℕ
 ten_digits = 10000000000
@@ -54,9 +56,6 @@ abbrev pub IsNumbered : Request → Type 0
 IsNumbered (take_step number terms) = number < ten_digits
 IsNumbered _ = Unit {0}
 
-unit : Unit {0}
-unit = tt
-
 either_numbered : (test : Bool) (one other : Request) → IsNumbered one → IsNumbered other → IsNumbered (if test then one else other)
 either_numbered true one other first second = first
 either_numbered false one other first second = second
@@ -65,20 +64,21 @@ only_numbered : (asked : Request) (rest : List ℕ) → IsNumbered asked → IsN
 only_numbered asked [] is = is
 only_numbered asked (byte ∷ bytes) is = unit
 
-name_numbered : (make : List ℕ → Request) (name : Option (List ℕ)) → ((n : List ℕ) → IsNumbered (make n)) → IsNumbered (with_name make name)
+name_numbered : (make : List ℕ → Request) (name : Option (List ℕ)) → ((n : List ℕ) → IsNumbered (make n))
+    → IsNumbered (request_with_name make name)
 name_numbered make None is = unit
 name_numbered make (Some name) is = is name
 
-step_numbered : (word terms : List ℕ) → IsNumbered (step_by (number_in word) terms)
-step_numbered word terms = by (request.is_number word) refl
+step_numbered : (word terms : List ℕ) → IsNumbered (step_by (number_in_word word) terms)
+step_numbered word terms = by (request.is_decimal_number word) refl
   where
-    by : (b : Bool) → request.is_number word ≡ b → IsNumbered (step_by (if b then Some (digits_value 10 word) else None) terms)
+    by : (b : Bool) → request.is_decimal_number word ≡ b → IsNumbered (step_by (if b then Some (digits_value 10 word) else None) terms)
     by true is =
         let parts = and_parts (list_all is_ascii_digit word) (request.has_number_form word) is in
-        short_below word parts.0 (form_short word (nat_eq (length word) 1 || not (request.leads_with_zero word)) parts.1)
+        short_below word parts.0 (form_short word (nat_eq (length word) 1 || not (request.begins_with_zero word)) parts.1)
     by false is = unit
 
-values_numbered : (name : List ℕ) (size : Option ℕ) → IsNumbered (values_by name size)
+values_numbered : (name : List ℕ) (size : Option ℕ) → IsNumbered (values_request_by name size)
 values_numbered name None = unit
 values_numbered name (Some size) = unit
 
@@ -97,7 +97,7 @@ with_numbered word rest =
     (either_numbered (bytes_eq word (codes "values")) _ _
     (values_numbered (first_word rest) (request.size_in (behind_word rest)))
     (either_numbered (bytes_eq word (codes "instances")) _ _
-    (instances_numbered (request.number_in (first_word rest)) (request.size_in (behind_word rest))) unit))))))
+    (instances_numbered (request.number_in_word (first_word rest)) (request.size_in (behind_word rest))) unit))))))
 
 word_numbered : (word rest : List ℕ) → IsNumbered (requested_by word rest)
 word_numbered word rest =
@@ -115,15 +115,6 @@ pub request_numbered : (line : List ℕ) → IsNumbered (request_of line)
 request_numbered line = line_numbered (stripped line)
 
 -- ---- Lines of a trace
-
-all_first : (text : List ℕ) → list_all is_ascii_digit (first_digits text) ≡ true
-all_first [] = refl
-all_first (byte ∷ bytes) = by (is_ascii_digit byte) refl (all_first bytes)
-  where
-    by : (b : Bool) → is_ascii_digit byte ≡ b → list_all is_ascii_digit (first_digits bytes) ≡ true
-        → list_all is_ascii_digit (if b then byte ∷ first_digits bytes else []) ≡ true
-    by true is rest = subst (λ (b : Bool). (b && list_all is_ascii_digit (first_digits bytes)) ≡ true) (sym is) rest
-    by false is rest = refl
 
 terms_number : (number : ℕ) (rest label : List ℕ) (said : StepLine) → with_terms number rest label ≡ Some said → said.number ≡ number
 terms_number number [] label said is =
@@ -144,7 +135,7 @@ arrow_numbered (Some around) said is = by (is_number (first_digits around.before
         ≡ Some said
         → said.number < ten_digits
     by true form is =
-        let small = short_below (first_digits around.before) (all_first around.before)
+        let small = short_below (first_digits around.before) (all_are_digits around.before)
         (form_short (first_digits around.before)
         (nat_eq (length (first_digits around.before)) 1 || not (leads_with_zero (first_digits around.before))) form) in
         let same = terms_number (digits_value 10 (first_digits around.before)) (behind_digits around.before) around.behind said is in

@@ -1,13 +1,13 @@
 -- What was accepted has one session to begin.
 use Rattle.std.proofs.Common.{◌≡◌, ℕ, List, ap, sym, ◌∙◌, subst, map, length}
-use Rattle.lotos_base.specs.Equation.{Data, IsWellFormedData}
+use Rattle.lotos_base.specs.Equation.{IsWellFormedData}
 use Rattle.lotos_base.specs.Term.{Term}
 use Rattle.rewriting_theory.specs.Rule.{Rule, AreWellFormedRules}
 use Rattle.rewriting_theory.specs.ChosenForm.{Chooses}
 use Rattle.rewriting_theory.proofs.ChosenLemmas.{chosen_one}
 use Rattle.termination_theory.specs.Precedence.{Precedence}
-use Rattle.termination_theory.specs.Orientation.{NumberedRule, rules_of, IsOrientation}
-use Rattle.termination_theory.proofs.OrientationLemmas.{oriented_well_formed, rules_of_data}
+use Rattle.termination_theory.specs.Orientation.{NumberedRule, rules_of}
+use Rattle.termination_theory.proofs.OrientationLemmas.{orientation_well_formed}
 use Rattle.type_definitions.specs.DeclaredTypes.{types_of}
 use Rattle.behaviour_semantics.specs.Replacement.{with_values, binding_of}
 use Rattle.flat_sentences.specs.HandedOn.{SessionBasis, Progress, IsSituation}
@@ -19,10 +19,6 @@ use Rattle.session_laws.specs.OneBeginning.{SessionsBeginOnce}
 use Rattle.session_laws.proofs.AcceptedParts.{StandsOn, accepted_on}
 
 -- ---- Normal forms
-
-well_formed : (p : Precedence) (data_ : Data) (rules : List NumberedRule) → IsOrientation p data_ rules
-    → AreWellFormedRules (rules_of rules)
-well_formed p data_ rules is = oriented_well_formed p (rules_of rules) (rules_of_data p data_ rules is).1
 
 -- one function gives the chosen forms
 chosen_once : (rules : List Rule) (canon other : Term → Term) → AreWellFormedRules rules → Chooses rules canon → Chooses rules other
@@ -47,7 +43,7 @@ canon_once acceptance canon other well is also =
     } in
     let same : is.1 ≡ also.1 =
     rules_once count p q alike acceptance.data_ is.1 also.1 (data_within acceptance.data_ well) is.2.joined.0 also.2.joined.0 in
-    chosen_once (rules_of also.1) canon other (well_formed q acceptance.data_ also.1 also.2.joined.0)
+    chosen_once (rules_of also.1) canon other (orientation_well_formed q acceptance.data_ also.1 also.2.joined.0)
     (subst (λ (rules : List NumberedRule). Chooses (rules_of rules) canon) same is.3) also.3
 
 -- ---- The beginning

@@ -4,7 +4,7 @@ use Rattle.lotos_base.specs.Outside.{Texts}
 use Rattle.lotos_top.specs.HandedOn.{Acceptance, Asked, IsAccepted, Beginning, GotFile, AreGotFrom, got_from, Comes, goes_on, unread, stops}
 use Rattle.lotos_top.specs.HandedOn.{wants_memory, Then, Has, Lacks, ComesOfPart, ComesOver, Refused, Print, Finish}
 use Rattle.lotos_top.specs.Opening.{SessionBegins}
-use Rattle.lotos_top.specs.Parts.{Opens, OpensAsked}
+use Rattle.lotos_top.specs.Parts.{OpensSession, OpensAsked}
 use Rattle.lotos_top.proofs.HandedOn.{outcomes_over_texts_are_one, value_or}
 use Rattle.session_laws.specs.OneBeginning.{SessionsBeginOnce}
 use Rattle.session_laws.proofs.AlikeLemmas.{BeginsOver, begun_over}
@@ -14,14 +14,15 @@ use Rattle.session_laws.proofs.WentOn.{went_on}
 module _ (once : SessionsBeginOnce) (texts : Texts) (asked : Asked) where
   -- a file that lacks, or a fault, is no acceptance
   never_unread : (acceptance : Acceptance) (files : List GotFile) (name : List ℕ) → ComesOver texts asked (goes_on acceptance)
-      → Opens (IsAccepted asked) files (unread name) → AreGotFrom (got_from texts) files → Lacks {E = Refused} {B = Acceptance} (got_from texts) (unread name) → ⊥
+      → OpensSession (IsAccepted asked) files (unread name) → AreGotFrom (got_from texts) files
+      → Lacks {E = Refused} {B = Acceptance} (got_from texts) (unread name) → ⊥
   never_unread acceptance files name over (inl ends) all lacks =
       let no = outcomes_over_texts_are_one texts asked (goes_on acceptance) (unread name) over
       (record { files = files; came = ends; got_files = all; lacks = lacks }) in cc no
   never_unread acceptance files name over (inr then_) all lacks = then_.4
 
   never_stops : (acceptance : Acceptance) (files : List GotFile) (told : Refused) → ComesOver texts asked (goes_on acceptance)
-      → Opens (IsAccepted asked) files (stops told) → AreGotFrom (got_from texts) files → ⊥
+      → OpensSession (IsAccepted asked) files (stops told) → AreGotFrom (got_from texts) files → ⊥
   never_stops acceptance files told over (inl ends) all =
       let no = outcomes_over_texts_are_one texts asked (goes_on acceptance) (stops told) over
       (record { files = files; came = ends; got_files = all; lacks = tt }) in cc no

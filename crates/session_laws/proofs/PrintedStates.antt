@@ -1,5 +1,5 @@
 -- The states of a session are printed on one line.
-use Rattle.std.proofs.Common.{◌≡◌, ◌⊎◌, inl, inr, ℕ, zero, suc, ◌+◌, ◌<◌, ◌≤◌, Bool, true, false, ◌||◌, cond, if◌then◌else◌, nat_eq, nat_lt, nat_le, List, [], ◌∷◌, length, slice_get, Some, codes, refl, sym, subst, arith, lt-ltb, eqb-true, ltb-true}
+use Rattle.std.proofs.Common.{◌≡◌, ◌⊎◌, inl, inr, ℕ, suc, ◌+◌, ◌<◌, ◌≤◌, Bool, true, false, ◌||◌, cond, if◌then◌else◌, nat_eq, nat_lt, nat_le, List, [], ◌∷◌, length, codes, refl, sym, subst, arith, lt-ltb, eqb-true, ltb-true}
 use Rattle.std.specs.Prelude.{◌==◌}
 use Rattle.std.specs.Char.{is_ascii_alphanumeric}
 use Rattle.std.specs.Int.{is_in_range}
@@ -9,15 +9,16 @@ use Rattle.lotos_base.specs.Signature.{Sort, Operation}
 use Rattle.lotos_lexer.specs.Bytes.{is_sign}
 use Rattle.lotos_lexer.specs.Lexemes.{underscore_before, word_length}
 use Rattle.behaviour_semantics.specs.Behaviour.{Behaviour, Process, Specification}
-use Rattle.behaviour_semantics.specs.Listing.{IsAmong}
 use Rattle.behaviour_semantics.specs.Run.{Reaches}
 use Rattle.behaviour_semantics.specs.WellFormed.{Every}
 use Rattle.behaviour_semantics.proofs.ListLemmas.{Every-weaker, Every-among, Every-append}
+use Rattle.behaviour_semantics.proofs.EveryLemmas.{every_from}
 use Rattle.lotos_top.specs.HandedOn.{Beginning, Standing, IsReached, Acceptance}
 use Rattle.lotos_top.specs.Opening.{SessionBegins}
 use Rattle.flat_sentences.specs.HandedOn.{IsWordSpelling, IsOperationSpelling, LeadTo, Situation, derivations_of, SessionsFollowDerivations}
 use Rattle.flat_sentences.specs.HandedOn.{bound_names, names_in_bodies, names_at_hand, MovesKeepNames, StateTextsAreOfNames, AllPass}
 use Rattle.flat_sentences.specs.HandedOn.{is_printable, state_text}
+use Rattle.flat_sentences.proofs.HandedOn.{each_so, under_shorter}
 use Rattle.session_laws.specs.AcceptedNames.{HasAcceptedNames, AcceptedNamesAreOfText}
 use Rattle.session_laws.specs.PrintedStates.{IsNamedProcess, HasNamedDefinitions, AcceptedDefinitionsAreNamed, IsPrintedLine, StatesPrintOnOneLine}
 use Rattle.session_laws.proofs.AcceptedParts.{StandsOn, accepted_on}
@@ -75,10 +76,6 @@ listed_printable (sign ∷ signs) all byte is =
 sign_printable : (byte : ℕ) → is_sign byte ≡ true → is_printable byte ≡ true
 sign_printable byte is = listed_printable (codes "#%&*+-./<=>@\\^~{}") refl byte is
 
-under_shorter : (more count : ℕ) → underscore_before more ≡ suc count → more ≡ count
-under_shorter zero count is = absurd (omega (arith, is))
-under_shorter (suc more) count is = omega (arith, is)
-
 word_printable : (name : List ℕ) → word_length name ≡ length name → AllPass is_printable name
 word_printable [] whole = tt
 word_printable (b ∷ bs) whole = by (is_ascii_alphanumeric b) refl (b == 95) refl whole (word_printable bs)
@@ -132,19 +129,10 @@ printed_line text all = record {
 
 -- ---- States
 
--- what holds of each member of a list by its position
-by_position : {X : Type 0} (P : X → Type 0) (xs : List X) → ((k : ℕ) (x : X) → slice_get xs k ≡ Some x → P x) → Every P xs
-by_position P [] so = tt
-by_position P (x ∷ xs) so = (so 0 x refl, by_position P xs (λ k. so (suc k)))
-
 names_of_bodies : (processes : List Process) → Every IsNamedProcess processes → Every IsWordSpelling (names_in_bodies processes)
 names_of_bodies [] all = tt
 names_of_bodies (p ∷ processes) all =
     Every-append IsWordSpelling (bound_names p.body) (names_in_bodies processes) all.0.variables (names_of_bodies processes all.1)
-
-from_among : (P : List ℕ → Type 0) (xs : List (List ℕ)) → ((name : List ℕ) → IsAmong name xs → P name) → Every P xs
-from_among P [] so = tt
-from_among P (x ∷ xs) so = (so x (inl refl), from_among P xs (λ name there. so name (inr there)))
 
 module _ (keep : MovesKeepNames) (follow : SessionsFollowDerivations) (begun : Beginning) (standing : Standing)
     (is : IsReached begun standing) where
@@ -164,7 +152,7 @@ module _ (keep : MovesKeepNames) (follow : SessionsFollowDerivations) (begun : B
   state_named : Every IsWordSpelling (names_at_hand processes first)
       → Every IsWordSpelling (bound_names standing.progress.situation.state)
   state_named all =
-      from_among IsWordSpelling (bound_names standing.progress.situation.state)
+      each_so IsWordSpelling (bound_names standing.progress.situation.state)
       (λ name there_. Every-among IsWordSpelling (names_at_hand processes first) name all
       (keep.reached begun.basis.data_ begun.basis.canon processes first (derivations_of standing.progress.steps)
       standing.progress.situation.state name reached there_))
@@ -189,10 +177,10 @@ states_print_on_one_line names defined follow keep texts asked files acceptance 
     printed_line (state_text acceptance.data_.signature acceptance.spec standing.progress.situation.state)
     (texts.passed is_printable acceptance.data_.signature acceptance.spec standing.progress.situation.state (λ byte fine. fine) (record {
       sorts =
-          by_position (λ (s : Sort). AllPass is_printable s.name) acceptance.data_.signature.sorts
+          every_from (λ (s : Sort). AllPass is_printable s.name) acceptance.data_.signature.sorts
           (λ k s at. word_name s.name (named.signature.sorts k s at));
       operations =
-          by_position (λ (o : Operation). AllPass is_printable o.name) acceptance.data_.signature.operations
+          every_from (λ (o : Operation). AllPass is_printable o.name) acceptance.data_.signature.operations
           (λ k o at. operation_name o.name (named.signature.operations k o at));
       gates = Every-weaker IsWordSpelling (AllPass is_printable) word_name acceptance.spec.gate_names named.gates;
       processes =

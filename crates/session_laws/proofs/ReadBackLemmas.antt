@@ -5,7 +5,6 @@ use Rattle.lotos_base.specs.Equation.{Data}
 use Rattle.lotos_base.specs.Limits.{text_limit}
 use Rattle.lotos_base.specs.Outside.{Texts}
 use Rattle.lotos_base.specs.WrittenTerm.{ListedOperation}
-use Rattle.session_laws.proofs.WentOn.{front, back}
 use Rattle.syntax_trees.specs.WrittenDefinition.{WrittenSpecification}
 use Rattle.behaviour_semantics.specs.Behaviour.{Specification}
 use Rattle.behaviour_tree.specs.DefinitionView.{specification_of}
@@ -17,9 +16,9 @@ use Rattle.session_laws.proofs.SpelledAlike.{same_data}
 use Rattle.lotos_top.specs.HandedOn.{Founded, founded_with, FoundedBy, Founds, got_from, Opens, OpensBook, FunctionalitiesAgree}
 use Rattle.lotos_top.specs.HandedOn.{ComesToAgreement, Guarded, IsGuardedIn, with_spec, Gathered, GotFile, AreGotFrom, goes_on, Resolves}
 use Rattle.lotos_top.specs.HandedOn.{GetsFile, is_got, ReadsSpecification, Gathers, ReadsOrder, Orders, Flattens}
-use Rattle.lotos_top.proofs.HandedOn.{AfterBook, AfterOrder, AfterRanks, AfterExits, AfterScopes, AfterData, AfterTypes}
+use Rattle.lotos_top.proofs.HandedOn.{AfterBook, AfterOrder, AfterRanks, AfterExits, AfterScopes, AfterData, AfterTypes, front, back}
 use Rattle.lotos_top.proofs.HandedOn.{foundings_over_texts_are_one}
-use Rattle.session_laws.specs.ReadBack.{IsResolvedAs, IsReadBack, StandsUnder}
+use Rattle.session_laws.specs.ReadBack.{IsResolvedAs, IsReadBack, IsGotUnder}
 use Rattle.session_laws.specs.AlikeLaws.{FoundedOver, TextsReadBackAreAccepted}
 use Rattle.session_laws.proofs.KeptLemmas.{IsKept, kept_there}
 use Rattle.session_laws.proofs.WentOn.{went_on, goes_then, goes_then_nothing}
@@ -125,7 +124,7 @@ came_with order tree g d s founded files rest =
     (ap (λ (f : Founded). f.data_) opens.second.1, ap (λ (f : Founded). f.spec) opens.second.1)
 
 module _ (laws : NoDisagreementIsAgreement) (texts others : Texts) (again : List ℕ) (order : Option (List ℕ)) (founded : Founded)
-    (text : List ℕ) (under : StandsUnder texts others again order text) (read : IsReadBack founded text)
+    (text : List ℕ) (under : IsGotUnder texts others again order text) (read : IsReadBack founded text)
     (keeps : IsKept read.data_ read.resolved.tree read.spec) where
   abbrev resolved : IsResolvedAs text read.data_ read.spec
   resolved = read.resolved
@@ -222,7 +221,7 @@ module _ (laws : NoDisagreementIsAgreement) (texts others : Texts) (again : List
 
 -- it is accepted, where something can be kept of it
 founded_again : NoDisagreementIsAgreement → (texts others : Texts) (spec again : List ℕ) (order : Option (List ℕ)) (founded : Founded)
-    (text : List ℕ) → FoundedOver texts spec order founded → StandsUnder texts others again order text → (read : IsReadBack founded text)
+    (text : List ℕ) → FoundedOver texts spec order founded → IsGotUnder texts others again order text → (read : IsReadBack founded text)
     → IsKept read.data_ read.resolved.tree read.spec
     → FoundedOver others again order (founded_with read.resolved.gathered read.data_ read.spec founded.items)
 founded_again laws texts others spec again order founded text over under read keeps =

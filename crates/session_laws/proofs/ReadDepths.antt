@@ -7,14 +7,15 @@ use Rattle.lotos_base.specs.WrittenTerm.{WrittenTerm, written}
 use Rattle.syntax_trees.specs.Depth.{nodes_of_term, nodes_of_terms}
 use Rattle.sort_terms.specs.ReadingOutcome.{unknown_in, IsReading}
 use Rattle.behaviour_semantics.specs.WellFormed.{Every}
+use Rattle.sort_terms.proofs.OutcomeLemmas.{is_reading}
 use Rattle.flat_sentences.specs.HandedOn.{term_depth, AreRead}
-use Rattle.flat_sentences.proofs.HandedOn.{IsShallow, shallow_parts, term_within, answer_is}
+use Rattle.flat_sentences.proofs.HandedOn.{IsShallow, shallow_parts, term_within}
 
 value_within : (signature : Signature) (limit sort : ℕ) (w : WrittenTerm) (t : Term)
     → AreRead signature (sort ∷ []) (w ∷ []) (t ∷ []) → IsShallow limit (nodes_of_term w) → term_depth t ≤ limit
 value_within signature limit sort (written head ws) t read none =
     let is : IsReading signature [] (written head ws) (Some sort) (record { term = t; sort = sort }) =
-    answer_is (unknown_in signature [] (written head ws)) head.place (IsReading signature [] (written head ws) (Some sort))
+    is_reading (unknown_in signature [] (written head ws)) head.place (IsReading signature [] (written head ws) (Some sort))
     (record { term = t; sort = sort }) read.0 in
     let deep = term_within signature [] limit 1 (written head ws) t sort is.0 none in
     omega (arith, deep)

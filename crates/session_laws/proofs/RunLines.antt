@@ -1,21 +1,18 @@
 -- The lines of a run.
-use Rattle.std.proofs.Common.{◌≡◌, ◌⊎◌, inl, inr, ℕ, Bool, true, false, List, [], ◌∷◌, ◌++◌, Some, ap, sym, ◌∙◌, subst, append-nil}
+use Rattle.std.proofs.Common.{◌≡◌, ◌⊎◌, inl, inr, ℕ, Bool, true, false, List, [], ◌∷◌, ◌++◌, Some, ap, sym, ◌∙◌, subst}
 use Rattle.line_server.specs.Answered as served
 use Rattle.line_server.specs.Answered.{no_line, ended_by, behind_one}
-use Rattle.lotos_top.specs.HandedOn.{SessionPoint, history_machine, Beginning, ShelfState, GotFile, Gives, Asked, Did, Comes, goes_on}
+use Rattle.lotos_top.specs.HandedOn.{SessionPoint, history_machine, Beginning, ShelfState, Gives, Asked, Did, Comes, goes_on}
 use Rattle.lotos_top.specs.HandedOn.{session, Print, Finish, prints, serves, Ended}
 use Rattle.lotos_top.specs.Run.{Streams, Ran}
 use Rattle.lotos_top.specs.Work.{work_of}
+use Rattle.lotos_top.proofs.HandedOn.{got_alone}
 use Rattle.session_laws.proofs.AcceptedParts.{second}
 use Rattle.session_laws.specs.RunLines.{ServesAccepted, IsAnsweredThere, RunLinesAreAnswered}
 
 abbrev begun_in : Beginning → Finish → Beginning
 begun_in other (prints p) = other
 begun_in other (serves begun) = begun
-
--- what was got for a part and for one that gets nothing
-got_alone : (files got later : List GotFile) → files ≡ got ++ later → later ≡ [] → files ≡ got
-got_alone files got later is none = is ∙ (ap (λ (it : List GotFile). got ++ it) none ∙ append-nil got)
 
 did_serve : (asked : Asked) (shelf between : ShelfState) (begun : Beginning)
     → Did {E = Print} {B = Finish} shelf between (work_of (Some (session asked))) (goes_on (serves begun))

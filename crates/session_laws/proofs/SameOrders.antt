@@ -9,7 +9,7 @@ use Rattle.termination_theory.specs.Precedence.{Precedence}
 use Rattle.termination_theory.specs.Orientation.{NumberedRule, GiveRules, no_more, dropped, turned_next}
 use Rattle.sort_terms.specs.Reading.{IsSortNamed}
 use Rattle.path_order.specs.Listed.{AreSortsNamed, HasProfile, IsListedBy, AreListedBy}
-use Rattle.path_order.specs.Listing.{AreListed, none_listed, listed_then, IsTwice, IsFineItem}
+use Rattle.path_order.specs.Listing.{AreListedByItems, none_listed, listed_then, IsTwice, IsFineItem}
 use Rattle.path_order.specs.Statuses.{IsFromRight}
 use Rattle.path_order.specs.OrderedBy.{IsPrecedenceBy}
 use Rattle.lotos_top.specs.HandedOn.{IsOpenedBy}
@@ -84,7 +84,7 @@ module _ (signature other : Signature) (same : AgreeSignatures signature other) 
     latest_first = are.latest_first;
   }
 
-  all_listed_over : {items : List ListedOperation} {fs : List ℕ} → AreListed signature items fs → AreListed other items fs
+  all_listed_over : {items : List ListedOperation} {fs : List ℕ} → AreListedByItems signature items fs → AreListedByItems other items fs
   all_listed_over none_listed = none_listed
   all_listed_over (listed_then {item = item} {fs = fs} one rest) = listed_then (listed_by_over item fs one) (all_listed_over rest)
 

@@ -1,6 +1,6 @@
 -- The tokens of a text that are names are spelled so.
 use Rattle.std.proofs.Common.{◌≡◌, ℕ, zero, suc, ◌+◌, ◌-◌, Bool, true, false, ◌&&◌, not, cond, nat_eq, if◌then◌else◌, List, [], ◌∷◌, take, drop, length, Option, None, Some, unwrap_or, refl, ap, sym, ◌∙◌, subst, arith, codes}
-use Rattle.std.specs.Prelude.{◌==◌, IfSome}
+use Rattle.std.specs.Prelude.{IfSome}
 use Rattle.std.specs.List.{prefix_len, list_all}
 use Rattle.std.specs.Option.{option_or}
 use Rattle.std.specs.Str.{bytes_eq}
@@ -8,6 +8,7 @@ use Rattle.std.specs.Char.{is_ascii_alphabetic, is_ascii_digit}
 use Rattle.std.proofs.lemmas.Bool.{and_parts, eq-eqb}
 use Rattle.lotos_base.specs.Name.{folded}
 use Rattle.lotos_base.proofs.Bytes.{letter_or_digit, digit_or_letter}
+use Rattle.lotos_base.proofs.Truth.{unit}
 use Rattle.lotos_lexer.specs.declared.kinds.TheConstants.{NAME, DIGIT_NAME, SIGN_NAME, GATES_CLOSE}
 use Rattle.lotos_lexer.specs.declared.lexemes.Lexeme.{Lexeme}
 use Rattle.lotos_lexer.specs.declared.positions.Position.{Position}
@@ -16,11 +17,12 @@ use Rattle.lotos_lexer.specs.declared.pieces.Piece.{Piece}
 use Rattle.lotos_lexer.specs.declared.pieces.Piece.TheVariants as piece
 use Rattle.lotos_lexer.specs.Bytes.{first_is, begins_with, is_sign, is_blank}
 use Rattle.lotos_lexer.specs.Spellings.{Spelling, reserved_words, operators, reserved_runs, single_signs}
-use Rattle.lotos_lexer.specs.Lexemes.{word_length, kind_in, word_kind_in, lexeme_of, spelling_at, word, digit_name, operator, closing, run, single_sign, lexeme_at}
+use Rattle.lotos_lexer.specs.Lexemes.{word_length, kind_in, word_kind_in, lexeme_of, spelling_at, word, digit_name, operator, closing, run_of_signs, single_sign, lexeme_at}
 use Rattle.lotos_lexer.specs.Pieces.{close_at, comment, token, piece_at}
 use Rattle.lotos_lexer.specs.Tokens as lexed
-use Rattle.lotos_lexer.specs.Tokens.{Lexed, behind, at_next_line, at_next_column, token_at, with_token, list_open_behind, cut, start, tokens_of}
-use Rattle.flat_sentences.proofs.HandedOn.{word_within, word_again, run_within, run_again, taken_long, first_stays, word_some, run_some}
+use Rattle.lotos_lexer.specs.Tokens.{Lexed, behind, token_at, with_token, list_open_behind, cut, start, tokens_of}
+use Rattle.lotos_lexer.proofs.Spans.{word_length-le}
+use Rattle.flat_sentences.proofs.HandedOn.{word_again, run_within, run_again, taken_long, first_stays, word_some, run_some, offset_behind}
 use Rattle.flat_sentences.proofs.HandedOn.{first_alphanumeric}
 use Rattle.lotos_rows.specs.Names.{spelled}
 use Rattle.behaviour_semantics.specs.WellFormed.{Every}
@@ -108,7 +110,7 @@ table_spells (row ∷ rows) bytes all =
 
 -- the bytes of a word or a digit name
 word_whole : (bytes : List ℕ) → word_length (take (word_length bytes) bytes) ≡ length (take (word_length bytes) bytes)
-word_whole bytes = word_again bytes ∙ sym (taken_long (word_length bytes) bytes (word_within bytes))
+word_whole bytes = word_again bytes ∙ sym (taken_long (word_length bytes) bytes (word_length-le bytes))
 
 word_spells : (bytes : List ℕ) → Spells bytes (word bytes)
 word_spells bytes = by (first_is is_ascii_alphabetic bytes) refl
@@ -154,7 +156,7 @@ closing_spells open_list bytes = by (open_list && begins_with (codes "]|") bytes
     by true = fixed_spelled GATES_CLOSE (take 2 bytes) refl
     by false = tt
 
-run_spells : (bytes : List ℕ) → Spells bytes (run bytes)
+run_spells : (bytes : List ℕ) → Spells bytes (run_of_signs bytes)
 run_spells bytes = by (first_is is_sign bytes) refl
   where
     kinds : (begins : first_is is_sign bytes ≡ true) (found : Option ℕ)
@@ -187,16 +189,13 @@ lexeme_spells open_list bytes =
     (or_spells bytes (digit_name bytes) _ (digit_spells bytes)
     (or_spells bytes (operator bytes) _ (table_spells operators bytes refl)
     (or_spells bytes (closing open_list bytes) _ (closing_spells open_list bytes)
-    (or_spells bytes (run bytes) (single_sign bytes) (run_spells bytes) (table_spells single_signs bytes refl)))))
+    (or_spells bytes (run_of_signs bytes) (single_sign bytes) (run_spells bytes) (table_spells single_signs bytes refl)))))
 
 -- ---- Pieces
 
 abbrev PieceSpells : List ℕ → Piece → Type 0
 PieceSpells bytes (piece.Token lexeme) = IsSpelled lexeme.kind (take lexeme.length bytes)
 PieceSpells bytes _ = Unit {0}
-
-unit : Unit {0}
-unit = tt
 
 piece_spells : (open_list : Bool) (bytes : List ℕ) → PieceSpells bytes (piece_at open_list bytes)
 piece_spells open_list bytes =
@@ -227,13 +226,6 @@ with_spells : (text : List ℕ) (it : Token) (found : Lexed) → IsSpelledIn tex
 with_spells text it (lexed.Tokens tokens) is rest = (is, rest)
 with_spells text it (lexed.BadByte place) is rest = unit
 with_spells text it (lexed.OpenComment place) is rest = unit
-
-offset_behind : (byte : ℕ) (position : Position) → (behind byte position).offset ≡ position.offset + 1
-offset_behind byte position = by (byte == 10)
-  where
-    by : (feed : Bool) → (if feed then at_next_line position else at_next_column position).offset ≡ position.offset + 1
-    by true = refl
-    by false = refl
 
 drop_suc : (n : ℕ) (text rest : List ℕ) (byte : ℕ) → drop n text ≡ byte ∷ rest → drop (suc n) text ≡ rest
 drop_suc zero text rest byte is = ap (drop 1) is

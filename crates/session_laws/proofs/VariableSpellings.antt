@@ -6,11 +6,11 @@ use Rattle.lotos_lexer.specs.declared.tokens.Token.{Token}
 use Rattle.syntax_trees.specs.WrittenVariable.{WrittenVariable}
 use Rattle.syntax_trees.specs.WrittenBehaviour.{WrittenSign, choice_sign, interleaving, full_synchronisation, synchronising, disabling, enabling, WrittenOffer, offer_value, offer_variable, WrittenBehaviour, stop, exit, call, action, inner_action, guard, hide, let_be, choose_value, choose_gate, par_gate, binary}
 use Rattle.syntax_trees.specs.WrittenDefinition.{WrittenHeading, WrittenInner, WrittenInners, inner_item, process, no_inner, inner_then, inners_of, WrittenSpecification}
-use Rattle.syntax_trees.specs.Strength.{PlacedSign, strength_of, joined}
+use Rattle.syntax_trees.specs.Strength.{PlacedSign, strength_of, joined_by_sign}
 use Rattle.syntax_trees.specs.Grouping.{IsGrouped, alone, split}
 use Rattle.lotos_rows.specs.Words.{Between}
 use Rattle.lotos_rows.specs.Names.{named, variables_of_sort, AreVariablesOfSort, of_sort, AreVariables, variables, AreParameters}
-use Rattle.lotos_rows.specs.Behaviours.{IsLetDeclaration, let_declaration, IsWrittenOffer, giving, asking, IsParallelSign, sign_interleaving, sign_full, sign_gates, IsSign, sign_choice, sign_parallel, sign_disabling, sign_enabling, before_first, AreOperands, hiding, letting, choosing_values, choosing_gates, parallel_over_gates, inner_prefix, guarding, acting, offering, last_operand, before_sign, IsAtom, stopping, exiting, calling, in_brackets, IsBehaviour, grouped_operands}
+use Rattle.lotos_rows.specs.Behaviours.{IsLetDeclaration, let_declaration, IsWrittenOffer, giving, asking, IsParallelSign, sign_interleaving, sign_full, sign_gates, IsSign, sign_choice, sign_parallel, sign_disabling, sign_enabling, before_first, AreOperands, hiding, letting, choosing_values, choosing_gates, parallel_over_gates, inner_prefix, guarding, acting, offering, last_operand, before_sign, IsAtom, stopping, exiting, calling, in_brackets, IsBehaviourText, grouped_operands}
 use Rattle.lotos_rows.specs.Definitions.{IsHeading, heading, IsProcess, a_process, IsWhere, no_where, a_where, AreInner, no_more_inner, item_then, process_then}
 use Rattle.lotos_rows.specs.Starts.{IsWrittenSpecification, a_specification}
 use Rattle.behaviour_semantics.specs.WellFormed.{Every}
@@ -93,7 +93,7 @@ record AreOperandsSpelled (operands : List WrittenBehaviour) (signs : List Place
   pub signs_are : Every DeclaresWordsThere signs
 
 grouped_spelled : {operands : List WrittenBehaviour} {signs : List PlacedSign} {behaviour : WrittenBehaviour}
-    → IsGrouped strength_of joined operands signs behaviour → Every AreVariablesSpelled operands → Every DeclaresWordsThere signs
+    → IsGrouped strength_of joined_by_sign operands signs behaviour → Every AreVariablesSpelled operands → Every DeclaresWordsThere signs
     → AreVariablesSpelled behaviour
 grouped_spelled alone all signs = all.0
 grouped_spelled (split {operands = operands} {others = others} {before = before} {behind = behind} {sign = sign} weaker as_weak is also)
@@ -217,7 +217,8 @@ module _ (text : List ℕ) where
     atom_spelled _ operand (in_brackets {right = right} {tokens = tokens} left within closes) all =
         behaviour_spelled tokens operand within (front text tokens (right ∷ []) all.1)
 
-    behaviour_spelled : (tokens : List Token) (behaviour : WrittenBehaviour) → IsBehaviour text tokens behaviour → AreSpelled text tokens
+    behaviour_spelled : (tokens : List Token) (behaviour : WrittenBehaviour) → IsBehaviourText text tokens behaviour
+        → AreSpelled text tokens
         → AreVariablesSpelled behaviour
     behaviour_spelled tokens _ (grouped_operands {operands = operands} {signs = signs} are grouped) all =
         let are_spelled = operands_spelled tokens operands signs are all in

@@ -29,15 +29,6 @@ goes_then_nothing First next a got comes first second = inr (a, got, [], first, 
 
 -- ---- Files
 
--- the first of the files, and the later ones
-pub front : (got : Files) (files later : List GotFile) → AreGotFrom got (files ++ later) → AreGotFrom got files
-front got [] later all = tt
-front got (file ∷ files) later all = (all.0, front got files later all.1)
-
-pub back : (got : Files) (files later : List GotFile) → AreGotFrom got (files ++ later) → AreGotFrom got later
-back got [] later all = all
-back got (file ∷ files) later all = back got files later all.1
-
 pub together : (got : Files) (files later : List GotFile) → AreGotFrom got files → AreGotFrom got later → AreGotFrom got (files ++ later)
 together got [] later first second = second
 together got (file ∷ files) later first second = (first.0, together got files later first.1 second)

@@ -7,17 +7,17 @@ use Rattle.syntax_trees.specs.WrittenItem.{WrittenOperation, WrittenPair, Writte
 use Rattle.syntax_trees.specs.WrittenBehaviour.{WrittenGateChoice, WrittenBehaviour}
 use Rattle.syntax_trees.specs.WrittenDefinition.{WrittenHeading, WrittenInner, WrittenInners, inners_of, WrittenSpecification}
 use Rattle.syntax_trees.specs.TakenItems.{items_of_inner, items_of_inners, items_of_specification}
-use Rattle.syntax_trees.specs.Strength.{PlacedSign, strength_of, joined}
+use Rattle.syntax_trees.specs.Strength.{PlacedSign, strength_of, joined_by_sign}
 use Rattle.syntax_trees.specs.Grouping.{IsGrouped, alone, split}
-use Rattle.lotos_rows.specs.Words.{IsOf, Optional, left_out, there, Many, no_more, and_then, Separated, last, before_more, Loosely, last_loose, with_separator, without_separator, Behind, behind, Between, between}
+use Rattle.lotos_rows.specs.Words.{IsOfKind, Optional, left_out, there, Many, no_more, and_then, Separated, last, before_more, Loosely, last_loose, with_separator, without_separator, Behind, behind, Between, between}
 use Rattle.lotos_rows.specs.Names.{spelled as token_spelled, IsName, a_name, AreNames, AreWrittenGates, AreOptionalGates, AreLooseNames, IsOperationName, word_name, digit_name, sign_name, NamedOperation, IsWrittenOperation, of_prefix_form, of_infix_form, PlacedProfile}
 use Rattle.lotos_rows.specs.Renamings.{IsSortPair, sort_for, IsOperationPair, operation_for, AreRenames, renames as renames_row}
 use Rattle.lotos_rows.specs.Types.{operations_of_profile, IsOperationLine, operations_line, AreOperations, operations, AreSections, sections, IsTypeBody, renaming, actualising, extending, extending_nothing, IsItem, a_library, a_type}
-use Rattle.lotos_rows.specs.Behaviours.{gate_choices_among, AreGateChoicesAmong, among, AreGateChoices, gate_choices, before_first, AreOperands, hiding, letting, choosing_values, choosing_gates, parallel_over_gates, inner_prefix, guarding, acting, offering, last_operand, before_sign, IsAtom, stopping, exiting, calling, in_brackets, IsBehaviour, grouped_operands}
+use Rattle.lotos_rows.specs.Behaviours.{gate_choices_among, AreGateChoicesAmong, among, AreGateChoices, gate_choices, before_first, AreOperands, hiding, letting, choosing_values, choosing_gates, parallel_over_gates, inner_prefix, guarding, acting, offering, last_operand, before_sign, IsAtom, stopping, exiting, calling, in_brackets, IsBehaviourText, grouped_operands}
 use Rattle.lotos_rows.specs.Definitions.{IsHeading, heading, IsProcess, a_process, IsWhere, no_where, a_where, AreInner, no_more_inner, item_then, process_then}
 use Rattle.lotos_rows.specs.Starts.{AreItems, IsWrittenSpecification, a_specification}
 use Rattle.scope_parts.specs.Scope.{Binding, bind, is_bound}
-use Rattle.scope_parts.specs.Numbering.{spelled, each_once_from, each_once, choice_names, gates_in, own_gates, inner_gates, inners_gates}
+use Rattle.scope_parts.specs.Numbering.{spelled_names, each_once_from, each_once, choice_names, gates_in, own_gates, inner_gates, inners_gates}
 use Rattle.scope_parts.specs.Definitions.{declared_gates}
 use Rattle.behaviour_semantics.specs.WellFormed.{Every}
 use Rattle.behaviour_semantics.proofs.EveryLemmas.{every_front, every_back}
@@ -88,7 +88,7 @@ once_every P before (name ∷ names) all =
     by true passed new = passed
     by false passed new = (all.0, new)
 
-names_every : (names : List PlacedName) → Every IsWord names → Every IsWordSpelling (spelled names)
+names_every : (names : List PlacedName) → Every IsWord names → Every IsWordSpelling (spelled_names names)
 names_every [] all = tt
 names_every (name ∷ names) all = (all.0, names_every names all.1)
 
@@ -104,7 +104,7 @@ among_every [] gates all = tt
 among_every (name ∷ names) gates all = (all.0, among_every names gates all.1)
 
 grouped_gates : {operands : List WrittenBehaviour} {signs : List PlacedSign} {behaviour : WrittenBehaviour}
-    → IsGrouped strength_of joined operands signs behaviour → Every AreGatesSpelled operands → AreGatesSpelled behaviour
+    → IsGrouped strength_of joined_by_sign operands signs behaviour → Every AreGatesSpelled operands → AreGatesSpelled behaviour
 grouped_gates alone all = all.0
 grouped_gates (split {operands = operands} {others = others} {left = left} {right = right} before after is also) all =
     Every-append IsWordSpelling (gates_in left) (gates_in right)
@@ -175,7 +175,7 @@ module _ (text : List ℕ) where
 
   -- ---- Names
 
-  pub token_word : (token : Token) → IsOf NAME token → IsSpelledIn text token → IsWordSpelling (token_spelled text token)
+  pub token_word : (token : Token) → IsOfKind NAME token → IsSpelledIn text token → IsWordSpelling (token_spelled text token)
   token_word token is spells = spells.as_word is.kind_is
 
   name_word : Gives (IsName text) IsWord
@@ -308,8 +308,8 @@ module _ (text : List ℕ) where
     operands_gates _ _ _
         (hiding {in_ = in_} {name_tokens = names} {tokens = tokens} {gates = gates} {inside = inside} word are is within) all =
         let rest = back names (in_ ∷ tokens) all.1 in (
-          Every-append IsWordSpelling (each_once (spelled gates)) (gates_in inside)
-              (once_every IsWordSpelling [] (spelled gates)
+          Every-append IsWordSpelling (each_once (spelled_names gates)) (gates_in inside)
+              (once_every IsWordSpelling [] (spelled_names gates)
               (names_every gates (names_words names gates are (front names (in_ ∷ tokens) all.1))))
               (behaviour_gates tokens inside within rest.1),
           tt,
@@ -365,7 +365,7 @@ module _ (text : List ℕ) where
     atom_gates _ operand (in_brackets {right = right} {tokens = tokens} left within closes) all =
         behaviour_gates tokens operand within (front tokens (right ∷ []) all.1)
 
-    behaviour_gates : (tokens : List Token) (behaviour : WrittenBehaviour) → IsBehaviour text tokens behaviour → AreSpelled tokens
+    behaviour_gates : (tokens : List Token) (behaviour : WrittenBehaviour) → IsBehaviourText text tokens behaviour → AreSpelled tokens
         → AreGatesSpelled behaviour
     behaviour_gates tokens _ (grouped_operands {operands = operands} {signs = signs} are grouped) all =
         grouped_gates grouped (operands_gates tokens operands signs are all)
@@ -373,7 +373,7 @@ module _ (text : List ℕ) where
   -- ---- Definitions
 
   heading_gates : (tokens : List Token) (given : WrittenHeading) → IsHeading text tokens given → AreSpelled tokens
-      → Every IsWordSpelling (spelled given.gates)
+      → Every IsWordSpelling (spelled_names given.gates)
   heading_gates _ _
       (heading {colon = colon} {gate_tokens = names} {parameter_tokens = parameters} {tokens = tokens} {gates = gates} name are given is
       ends) all =
@@ -390,7 +390,7 @@ module _ (text : List ℕ) where
         record {
           gates =
               Every-append IsWordSpelling (own_gates given body) (inners_gates (inners_of inner))
-              (Every-append IsWordSpelling (spelled given.gates) (gates_in body)
+              (Every-append IsWordSpelling (spelled_names given.gates) (gates_in body)
               (heading_gates a given head (front a (sign ∷ (b ++ (c ++ end ∷ []))) all.1))
               (behaviour_gates b body behaviour (front b (c ++ end ∷ []) behind_a.1)))
               rest.gates;
@@ -431,7 +431,7 @@ module _ (text : List ℕ) where
         Every-append IsItemSpelled items (items_of_inners (inners_of inner))
             (items_spelled b items are (front b (word ∷ (c ++ (d ++ end ∷ []))) behind_a)) rest.items,
         Every-append IsWordSpelling (own_gates given body) (inners_gates (inners_of inner))
-            (Every-append IsWordSpelling (spelled given.gates) (gates_in body)
+            (Every-append IsWordSpelling (spelled_names given.gates) (gates_in body)
             (heading_gates a given head (front a (b ++ word ∷ (c ++ (d ++ end ∷ []))) all.1))
             (behaviour_gates c body behaviour (front c (d ++ end ∷ []) behind_b.1)))
             rest.gates,

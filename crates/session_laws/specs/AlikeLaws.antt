@@ -1,10 +1,10 @@
 -- A text that stands for the same as an accepted specification is accepted too, and what is accepted alike runs alike.
 use Rattle.std.specs.Prelude.{◌≡◌, ℕ, List, Option, Some}
 use Rattle.lotos_base.specs.Outside.{Texts}
-use Rattle.lotos_top.specs.HandedOn.{Beginning, Acceptance, Founded, IsFounded, ComesOfPart, ComesOver, asked_for, Comes, goes_on, stops}
+use Rattle.lotos_top.specs.HandedOn.{Beginning, Acceptance, Founded, IsFounded, ComesOfPart, ComesOver, asked_acceptance, Comes, goes_on, stops}
 use Rattle.lotos_top.specs.HandedOn.{Refused, check, session, Print, prints, serves}
 use Rattle.lotos_top.specs.Work.{work_of}
-use Rattle.session_laws.specs.ReadBack.{IsReadBack, StandsUnder}
+use Rattle.session_laws.specs.ReadBack.{IsReadBack, IsGotUnder}
 use Rattle.session_laws.specs.Alike.{AreFoundedAlike, AreAcceptedAlike, BeginAlike}
 
 -- this comes of the specification with the order file up to the book of its data
@@ -17,7 +17,7 @@ abbrev pub TextsReadBackAreAccepted : Type 0
 TextsReadBackAreAccepted = (texts others : Texts) (spec again : List ℕ) (order : Option (List ℕ)) (founded : Founded) (text : List ℕ)
     (comes : Comes Refused Founded)
     → FoundedOver texts spec order founded
-    → StandsUnder texts others again order text
+    → IsGotUnder texts others again order text
     → IsReadBack founded text
     → ComesOfPart others (IsFounded again order) comes
     → (other : Founded) × (comes ≡ goes_on other) × AreFoundedAlike founded other
@@ -27,23 +27,25 @@ pub record RunAlike (texts others : Texts) (spec again : List ℕ) (order other_
   -- with words as start values the one is accepted where the other is, and the words have the same values
   pub acceptances :
       (values : List (List ℕ)) (acceptance : Acceptance) →
-      ComesOver texts (asked_for spec order values) (goes_on acceptance) →
-      (other : Acceptance) × ComesOver others (asked_for again other_order values) (goes_on other) × AreAcceptedAlike acceptance other
+      ComesOver texts (asked_acceptance spec order values) (goes_on acceptance) →
+      (other : Acceptance) × ComesOver others (asked_acceptance again other_order values) (goes_on other)
+      × AreAcceptedAlike acceptance other
   -- and where words are refused as start values of the one, they are refused for the same as those of the other
   pub refusals :
       (values : List (List ℕ)) (told : Refused) →
-      ComesOver texts (asked_for spec order values) (stops told) →
-      (other : Refused) × ComesOver others (asked_for again other_order values) (stops other) × (told.refusal ≡ other.refusal)
+      ComesOver texts (asked_acceptance spec order values) (stops told) →
+      (other : Refused) × ComesOver others (asked_acceptance again other_order values) (stops other) × (told.refusal ≡ other.refusal)
   -- `check` prints the very same report
   pub reports :
       (values : List (List ℕ)) (report : Print) →
-      ComesOfPart texts (work_of (Some (check (asked_for spec order values)))) (goes_on (prints report)) →
-      ComesOfPart others (work_of (Some (check (asked_for again other_order values)))) (goes_on (prints report))
+      ComesOfPart texts (work_of (Some (check (asked_acceptance spec order values)))) (goes_on (prints report)) →
+      ComesOfPart others (work_of (Some (check (asked_acceptance again other_order values)))) (goes_on (prints report))
   -- and the sessions that `run` serves begin alike
   pub sessions :
       (values : List (List ℕ)) (begun : Beginning) →
-      ComesOfPart texts (work_of (Some (session (asked_for spec order values)))) (goes_on (serves begun)) →
-      (other : Beginning) × ComesOfPart others (work_of (Some (session (asked_for again other_order values)))) (goes_on (serves other))
+      ComesOfPart texts (work_of (Some (session (asked_acceptance spec order values)))) (goes_on (serves begun)) →
+      (other : Beginning) × ComesOfPart others (work_of (Some (session (asked_acceptance again other_order values))))
+      (goes_on (serves other))
       × BeginAlike begun other
 
 -- It is so, both ways, where what is known up to the book is alike.

@@ -5,7 +5,7 @@ use Rattle.lotos_base.specs.Limits.{text_limit}
 use Rattle.lotos_base.specs.Outside.{Texts}
 use Rattle.flat_sentences.specs.HandedOn.{flat_text}
 use Rattle.lotos_top.specs.Flattening.{flat_printed}
-use Rattle.lotos_top.specs.HandedOn.{Beginning, Acceptance, Founded, IsFounded, ComesOfPart, ComesOver, asked_for, Comes, goes_on, stops}
+use Rattle.lotos_top.specs.HandedOn.{Beginning, Acceptance, Founded, IsFounded, ComesOfPart, ComesOver, asked_acceptance, Comes, goes_on, stops}
 use Rattle.lotos_top.specs.HandedOn.{Refused, check, session, flattening, Print, Finish, prints, serves}
 use Rattle.lotos_top.specs.Settled.{WorkOver}
 use Rattle.session_laws.specs.Alike.{AreFoundedAlike, AreAcceptedAlike, BeginAlike}
@@ -36,26 +36,26 @@ pub record ComesAlike (texts others : Texts) (spec name : List ℕ) (order : Opt
   -- with the words with which the first was accepted as start values, and the same values
   pub accepts :
       (values : List (List ℕ)) (acceptance : Acceptance) (comes : Comes Refused Acceptance) →
-      ComesOver texts (asked_for spec order values) (goes_on acceptance) →
-      ComesOver others (asked_for name order values) comes →
+      ComesOver texts (asked_acceptance spec order values) (goes_on acceptance) →
+      ComesOver others (asked_acceptance name order values) comes →
       (other : Acceptance) × (comes ≡ goes_on other) × AreAcceptedAlike acceptance other
   -- and it is refused for the same with those with which the first was refused
   pub refuses :
       (values : List (List ℕ)) (told : Refused) (comes : Comes Refused Acceptance) →
-      ComesOver texts (asked_for spec order values) (stops told) →
-      ComesOver others (asked_for name order values) comes →
+      ComesOver texts (asked_acceptance spec order values) (stops told) →
+      ComesOver others (asked_acceptance name order values) comes →
       (other : Refused) × (comes ≡ stops other) × (told.refusal ≡ other.refusal)
   -- a run of `check` does the very same: it prints the same report
   pub checks :
       (values : List (List ℕ)) (report : Print) (comes : Comes Print Finish) →
-      WorkOver texts (Some (check (asked_for spec order values))) (goes_on (prints report)) →
-      WorkOver others (Some (check (asked_for name order values))) comes →
+      WorkOver texts (Some (check (asked_acceptance spec order values))) (goes_on (prints report)) →
+      WorkOver others (Some (check (asked_acceptance name order values))) comes →
       comes ≡ goes_on (prints report)
   -- and one of `run` serves a session that begins alike, so that the same steps are lawful in both, with the same menus and labels
   pub runs :
       (values : List (List ℕ)) (begun : Beginning) (comes : Comes Print Finish) →
-      WorkOver texts (Some (session (asked_for spec order values))) (goes_on (serves begun)) →
-      WorkOver others (Some (session (asked_for name order values))) comes →
+      WorkOver texts (Some (session (asked_acceptance spec order values))) (goes_on (serves begun)) →
+      WorkOver others (Some (session (asked_acceptance name order values))) comes →
       (other : Beginning) × (comes ≡ goes_on (serves other)) × BeginAlike begun other
 
 -- What a run prints that flattens a specification, with an order file or without one, is the flat text of what is accepted; and where

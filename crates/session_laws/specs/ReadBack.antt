@@ -28,6 +28,6 @@ pub record IsReadBack (founded : Founded) (text : List ℕ) : Type 0 where
   pub same : AreSameSpecifications founded.spec spec
 
 -- Under this name the text is got, and the order file, if one is asked for, is the one of the first texts.
-pub record StandsUnder (texts others : Texts) (name : List ℕ) (order : Option (List ℕ)) (text : List ℕ) : Type 0 where
+pub record IsGotUnder (texts others : Texts) (name : List ℕ) (order : Option (List ℕ)) (text : List ℕ) : Type 0 where
   pub got : got_from others name ≡ Some text
   pub same_order : (file : List ℕ) → order ≡ Some file → others file ≡ texts file

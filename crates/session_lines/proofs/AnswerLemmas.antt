@@ -11,15 +11,15 @@ use Rattle.lotos_base.specs.Equality.{Equal}
 use Rattle.lotos_base.specs.Equation.{Data}
 use Rattle.lotos_base.specs.Signature.{Signature}
 use Rattle.lotos_base.specs.Term.{Term}
-use Rattle.session_lines.specs.Refusal.{bad_command, bad_term, fault_number, term_number, AreTerms, AreUnread}
+use Rattle.session_lines.specs.Refusal.{bad_command, bad_term, fault_number, term_number, AreTermsOfLine, AreUnread}
 use Rattle.session_lines.specs.Answer.{QuestionOutcome, refuses, gives, IsNormalAnswer, IsComparison}
 
 -- ---- Texts
 
-pub same_terms : (text : List ℕ) (terms others : List WrittenTerm) → AreTerms text terms → AreTerms text others → terms ≡ others
+pub same_terms : (text : List ℕ) (terms others : List WrittenTerm) → AreTermsOfLine text terms → AreTermsOfLine text others → terms ≡ others
 same_terms text terms others = all_have_one_outcome.terms.one_tree 0 text terms others
 
-pub not_unread : (text : List ℕ) (terms : List WrittenTerm) (number : ℕ) → AreTerms text terms → AreUnread text number → ⊥
+pub not_unread : (text : List ℕ) (terms : List WrittenTerm) (number : ℕ) → AreTermsOfLine text terms → AreUnread text number → ⊥
 not_unread text terms number are unread = unread.2 (all_have_one_outcome.terms.not_both 0 text terms unread.0 are unread.1)
 
 pub same_number : (text : List ℕ) (number other : ℕ) → AreUnread text number → AreUnread text other → number ≡ other
@@ -31,7 +31,7 @@ same_number text number other one two = by (all_have_one_outcome.terms.one_fault
     by (inr (inr same)) = one.3 ∙ (ap fault_number same ∙ sym two.3)
 
 -- another number of terms
-counted : (text : List ℕ) (terms others : List WrittenTerm) (wanted : ℕ) → AreTerms text terms → AreTerms text others
+counted : (text : List ℕ) (terms others : List WrittenTerm) (wanted : ℕ) → AreTermsOfLine text terms → AreTermsOfLine text others
     → length terms ≡ wanted → length others ≢ wanted → ⊥
 counted text terms others wanted are are_other is other = other (ap length (same_terms text others terms are_other are) ∙ is)
 
@@ -48,7 +48,8 @@ pair_reads_once signature left right one other = comes_once _ _ _ one other
 
 -- what one term in a text is read as, and what two are
 term_reads_once : (signature : Signature) (text : List ℕ) (term other : WrittenTerm) (one two : reading.ReadingOutcome SortedTerm)
-    → AreTerms text (term ∷ []) → AreTerms text (other ∷ []) → ReadingIs signature [] term None one → ReadingIs signature [] other None two
+    → AreTermsOfLine text (term ∷ []) → AreTermsOfLine text (other ∷ []) → ReadingIs signature [] term None one
+    → ReadingIs signature [] other None two
     → one ≡ two
 term_reads_once signature text term other one two are are_other reads reads_other =
     let lists : term ∷ [] ≡ other ∷ [] = same_terms text (term ∷ []) (other ∷ []) are are_other in
@@ -57,7 +58,7 @@ term_reads_once signature text term other one two are are_other reads reads_othe
 
 pair_reads_one : (signature : Signature) (text : List ℕ) (left right left' right' : WrittenTerm)
     (one two : reading.ReadingOutcome SortedPair)
-    → AreTerms text (left ∷ right ∷ []) → AreTerms text (left' ∷ right' ∷ []) → PairReadingIs signature [] left right one
+    → AreTermsOfLine text (left ∷ right ∷ []) → AreTermsOfLine text (left' ∷ right' ∷ []) → PairReadingIs signature [] left right one
     → PairReadingIs signature [] left' right' two → one ≡ two
 pair_reads_one signature text left right left' right' one two are are_other reads reads_other =
     let lists : left ∷ right ∷ [] ≡ left' ∷ right' ∷ [] = same_terms text (left ∷ right ∷ []) (left' ∷ right' ∷ []) are are_other in

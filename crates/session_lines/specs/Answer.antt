@@ -8,7 +8,7 @@ use Rattle.lotos_base.specs.Term.{Term}
 use Rattle.sort_terms.specs.ReadingOutcome as reading
 use Rattle.sort_terms.specs.ReadingOutcome.{SortedTerm, SortedPair, ReadingIs, PairReadingIs, answered}
 use Rattle.printed_texts.specs.TermText.{term_text}
-use Rattle.session_lines.specs.Refusal.{QuestionRefusal, bad_command, bad_term, refusal_text, term_number, AreTerms, AreUnread}
+use Rattle.session_lines.specs.Refusal.{QuestionRefusal, bad_command, bad_term, question_refusal_text, term_number, AreTermsOfLine, AreUnread}
 
 -- what a question of a line comes to: an answer, or a refusal
 pub data QuestionOutcome (A : Type 0) : Type 0 where
@@ -19,31 +19,31 @@ pub data QuestionOutcome (A : Type 0) : Type 0 where
 -- for its tokens, grammar or depth, then for another number of terms, then for the readings of its term.
 abbrev pub IsNormalAnswer : Signature → (Term → Term) → List ℕ → QuestionOutcome Term → Type 0
 IsNormalAnswer signature canon text (gives form) =
-    (term : WrittenTerm) × (read : SortedTerm) × AreTerms text (term ∷ [])
+    (term : WrittenTerm) × (read : SortedTerm) × AreTermsOfLine text (term ∷ [])
     × ReadingIs signature [] term None (answered read) × (form ≡ canon read.term)
-IsNormalAnswer signature canon text (refuses bad_command) = (terms : List WrittenTerm) × AreTerms text terms × (length terms ≢ 1)
+IsNormalAnswer signature canon text (refuses bad_command) = (terms : List WrittenTerm) × AreTermsOfLine text terms × (length terms ≢ 1)
 IsNormalAnswer signature canon text (refuses (bad_term number)) =
     AreUnread text number
-    ⊎ ((term : WrittenTerm) × (refusal : reading.ReadingRefusal) × AreTerms text (term ∷ [])
+    ⊎ ((term : WrittenTerm) × (refusal : reading.ReadingRefusal) × AreTermsOfLine text (term ∷ [])
     × ReadingIs signature [] term None (reading.refused refusal) × (number ≡ term_number refusal))
 
 -- Whether the equations derive the equality of the two terms in the text, which are read at one sort. The text is refused for
 -- its tokens, grammar or depth, then for another number of terms, then for the readings of the two.
 abbrev pub IsComparison : Data → List ℕ → QuestionOutcome Bool → Type 0
 IsComparison data_ text (gives equal) =
-    (left right : WrittenTerm) × (read : SortedPair) × AreTerms text (left ∷ right ∷ [])
+    (left right : WrittenTerm) × (read : SortedPair) × AreTermsOfLine text (left ∷ right ∷ [])
     × PairReadingIs data_.signature [] left right (answered read)
     × (IsTrue equal ↔ Equal data_ read.left read.right)
-IsComparison data_ text (refuses bad_command) = (terms : List WrittenTerm) × AreTerms text terms × (length terms ≢ 2)
+IsComparison data_ text (refuses bad_command) = (terms : List WrittenTerm) × AreTermsOfLine text terms × (length terms ≢ 2)
 IsComparison data_ text (refuses (bad_term number)) =
     AreUnread text number
-    ⊎ ((left right : WrittenTerm) × (refusal : reading.ReadingRefusal) × AreTerms text (left ∷ right ∷ [])
+    ⊎ ((left right : WrittenTerm) × (refusal : reading.ReadingRefusal) × AreTermsOfLine text (left ∷ right ∷ [])
     × PairReadingIs data_.signature [] left right (reading.refused refusal) × (number ≡ term_number refusal))
 
 -- what is printed
 abbrev pub normal_text : Signature → QuestionOutcome Term → List ℕ
 normal_text signature (gives form) = term_text signature [] form ++ codes "\n"
-normal_text signature (refuses refusal) = refusal_text refusal
+normal_text signature (refuses refusal) = question_refusal_text refusal
 
 abbrev pub verdict_text : Bool → List ℕ
 verdict_text true = codes "equal\n"
@@ -51,4 +51,4 @@ verdict_text false = codes "different\n"
 
 abbrev pub comparison_text : QuestionOutcome Bool → List ℕ
 comparison_text (gives equal) = verdict_text equal
-comparison_text (refuses refusal) = refusal_text refusal
+comparison_text (refuses refusal) = question_refusal_text refusal

@@ -7,7 +7,7 @@ pub use Rattle.lotos_grammar.specs.HandedOn.{left_out, IsTermsReading, IsTermsFa
 pub use Rattle.lotos_grammar.specs.HandedOn.{OpenComment}
 pub use Rattle.printed_texts.specs.BehaviourText.{state_text}
 pub use Rattle.printed_texts.specs.MenuText.{label_text, menu_text, entry_term_text}
-pub use Rattle.printed_texts.specs.ReportLines.{head_text, usage_text, unread_text}
+pub use Rattle.printed_texts.specs.ReportLines.{head_text, unread_text}
 pub use Rattle.printed_texts.specs.TextView.{written_label, written_menu, written_value}
 pub use Rattle.lotos_grammar.specs.HandedOn.read_fault
 pub use Rattle.lotos_grammar.specs.HandedOn.read_faults

@@ -9,9 +9,9 @@ pub data QuestionRefusal : Type 0 where
   bad_command : QuestionRefusal
   bad_term : (number : ℕ) → QuestionRefusal
 
-abbrev pub refusal_text : QuestionRefusal → List ℕ
-refusal_text bad_command = codes "refused 801 BadCommand\n"
-refusal_text (bad_term number) = codes "refused 804 BadTerm " ++ decimal number ++ codes "\n"
+abbrev pub question_refusal_text : QuestionRefusal → List ℕ
+question_refusal_text bad_command = codes "refused 801 BadCommand\n"
+question_refusal_text (bad_term number) = codes "refused 804 BadTerm " ++ decimal number ++ codes "\n"
 
 -- the number of a fault of a text. Want of memory, which refuses no line, has none
 abbrev pub fault_number : ReadFault → ℕ
@@ -30,8 +30,8 @@ term_number (reading.no_reading place) = 212
 term_number (reading.two_readings place) = 213
 
 -- the text of a line is read as these terms. Places in it are never printed, and its number is 0
-abbrev pub AreTerms : List ℕ → List WrittenTerm → Type 0
-AreTerms text terms = IsTermsReading 0 text terms
+abbrev pub AreTermsOfLine : List ℕ → List WrittenTerm → Type 0
+AreTermsOfLine text terms = IsTermsReading 0 text terms
 
 -- or it has a fault of this number, of its tokens, of the grammar of terms, or of depth
 abbrev pub AreUnread : List ℕ → ℕ → Type 0

@@ -10,10 +10,10 @@ use Rattle.session_lines.specs.declared.refusals.Refusal.{Refusal}
 use Rattle.session_lines.specs.declared.refusals.Refusal.TheVariants.{BadCommand, BadTerm, NoMemory}
 
 -- a refusal; want of memory is none
-abbrev pub refusal_of : Refusal → Option plain_refusal.QuestionRefusal
-refusal_of BadCommand = Some plain_refusal.bad_command
-refusal_of (BadTerm number) = Some (plain_refusal.bad_term number)
-refusal_of NoMemory = None
+abbrev pub question_refusal_of : Refusal → Option plain_refusal.QuestionRefusal
+question_refusal_of BadCommand = Some plain_refusal.bad_command
+question_refusal_of (BadTerm number) = Some (plain_refusal.bad_term number)
+question_refusal_of NoMemory = None
 
 -- the refusal for a fault of a text, and for the fault of a term
 abbrev pub refused_for_text : ReadFault → Refusal
@@ -39,8 +39,8 @@ RefusesWith Is NoMemory = Unit {0}
 
 -- the line of a refusal was added
 abbrev pub AddsRefusal : Refusal → List ℕ → List ℕ → Type 0
-AddsRefusal BadCommand before after = after ≡ before ++ plain_refusal.refusal_text plain_refusal.bad_command
-AddsRefusal (BadTerm number) before after = after ≡ before ++ plain_refusal.refusal_text (plain_refusal.bad_term number)
+AddsRefusal BadCommand before after = after ≡ before ++ plain_refusal.question_refusal_text plain_refusal.bad_command
+AddsRefusal (BadTerm number) before after = after ≡ before ++ plain_refusal.question_refusal_text (plain_refusal.bad_term number)
 AddsRefusal NoMemory before after = ⊥
 
 -- what a question comes to, and that its text was added

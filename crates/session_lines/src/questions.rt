@@ -10,7 +10,7 @@ ghost use Rattle.session_lines.specs.Answer.{
   normal_text,
   verdict_text,
 };
-ghost use Rattle.session_lines.specs.Refusal.{AreTerms};
+ghost use Rattle.session_lines.specs.Refusal.{AreTermsOfLine};
 ghost use Rattle.session_lines.specs.View.{AddsOutcome, RefusesWith};
 ghost use Rattle.sort_terms.specs.EquationView.{data_of};
 ghost use Rattle.sort_terms.specs.ReaderView.{signature_read};
@@ -107,7 +107,7 @@ fn normal_of(
     term: &Written,
 ) -> Result<Sorted, Refusal>
     requires read { signature_read reader.now ≡ (data_of book.old.flat).signature }
-    ensures answered { (text : List ℕ) → AreTerms text (written_term_of term.now ∷ [])
+    ensures answered { (text : List ℕ) → AreTermsOfLine text (written_term_of term.now ∷ [])
         → MatchResult result
         (λ form. IsNormalAnswer (data_of book.old.flat).signature (book_canon book.old) text
         (gives (term_in form)))
@@ -184,7 +184,8 @@ fn are_equal_terms(
 ) -> Result<bool, Refusal>
     requires read { signature_read reader.now ≡ (data_of book.old.flat).signature }
     ensures answered { (text : List ℕ)
-        → AreTerms text (written_term_of terms.entry.0.now ∷ written_term_of terms.entry.1.now ∷ [])
+        → AreTermsOfLine text (written_term_of terms.entry.0.now
+        ∷ written_term_of terms.entry.1.now ∷ [])
         → MatchResult result
         (λ equal. IsComparison (data_of book.old.flat) text (gives equal))
         (RefusesWith (IsComparison (data_of book.old.flat) text)) }

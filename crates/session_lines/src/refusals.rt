@@ -1,6 +1,6 @@
 //! Why a line of a session is refused.
 
-ghost use Rattle.session_lines.specs.Refusal.{bad_term, refusal_text};
+ghost use Rattle.session_lines.specs.Refusal.{bad_term, question_refusal_text};
 ghost use Rattle.session_lines.specs.View.{AddsRefusal};
 ghost use Rattle.std.specs.Prelude.{◌≡◌, ◌++◌, OnOk};
 
@@ -82,7 +82,7 @@ pub fn push_refusal(refusal: Refusal, into: &mut Vec<u8>) -> Result<(), NoMemory
 // Appends the line of terms with the fault of this number.
 fn push_bad_term(number: u32, into: &mut Vec<u8>) -> Result<(), NoMemory>
     ensures { OnOk result (into.new.items ≡ into.old.items
-        ++ refusal_text (bad_term number)) }
+        ++ question_refusal_text (bad_term number)) }
 {
     push_text(into, b"refused 804 BadTerm ")?;
     push_number(into, number as u128)?;

@@ -36,7 +36,7 @@ use Rattle.session_histories.specs.SessionLaws.{IsStateOver}
 use Rattle.session_histories.specs.StepLaws.{HasItem}
 use Rattle.session_histories.proofs.ProgressLemmas.{stepped_lawful, undone_lawful}
 use Rattle.session_histories.proofs.StepLemmas.{equal_leaves, lawful_item, met_where_kept, one_situation}
-use Rattle.session_log.specs.CourseView.{basis_over, item_of, situation_of, past_of, pasts_of, progress_of}
+use Rattle.session_log.specs.CourseView.{basis_over, past_item_of, situation_of, past_of, pasts_of, progress_of}
 use Rattle.session_log.specs.Courses.{AreClosedStates, IsGoneOn, IsUndone, oldest_state, first_state_of, behind_state}
 use Rattle.session_log.specs.Entries.{AreGiven, IsDerivationFor, IsEntryAt}
 use Rattle.session_log.specs.Kept.{AreSuited, IsKeptCourse, IsKeptMenu, IsKeptPast, IsKeptState}
@@ -54,12 +54,12 @@ use Rattle.step_taker.specs.Taken.{IsTaken, IsStepFault, ground_of}
 
 -- a course that has taken one step more
 pub one_more : (old new : Course) (past : Past) → new.history.items ≡ old.history.items ++ (past ∷ []) → past.state ≡ old.state
-    → past.menu ≡ old.menu → progress_of new ≡ stepped (progress_of old) (item_of past) (situation_of new.state new.menu)
+    → past.menu ≡ old.menu → progress_of new ≡ stepped (progress_of old) (past_item_of past) (situation_of new.state new.menu)
 one_more old new past longer same_state same_menu =
     let steps : pasts_of new.history.items ≡ pasts_of old.history.items ++ (past_of past ∷ []) =
     ap pasts_of longer ∙ map-append past_of old.history.items (past ∷ []) in
-    let before : past_of past ≡ record { item = item_of past; before = situation_of old.state old.menu } =
-    λ i. record { item = item_of past; before = situation_of (same_state i) (same_menu i) } in
+    let before : past_of past ≡ record { item = past_item_of past; before = situation_of old.state old.menu } =
+    λ i. record { item = past_item_of past; before = situation_of (same_state i) (same_menu i) } in
     λ i. record {
       situation = situation_of new.state new.menu;
       steps = (steps ∙ ap (λ (it : PastStep). pasts_of old.history.items ++ (it ∷ [])) before) i;
@@ -170,7 +170,7 @@ pub has_stepped : (data_ : Data) (canon : Term → Term) (spec : Spec) (old : Co
     → IsStep data_ canon spec old number values label next new
     → HasStepped (basis_over data_ canon spec) (progress_of old) number (terms_of values) (label_of label) (progress_of new)
 has_stepped data_ canon spec old number values label next new over kept h = record {
-  item = item_of next;
+  item = past_item_of next;
   next = situation_of new.state new.menu;
   numbered = h.numbered;
   valued = ap terms_of h.valued;
@@ -226,14 +226,14 @@ dropped_last old past history longer =
     let steps : pasts_of old.history.items ≡ pasts_of history ++ (past_of past ∷ []) =
     ap pasts_of longer ∙ map-append past_of history (past ∷ []) in
     record {
-      item = item_of past;
+      item = past_item_of past;
       dropped = λ i. record { situation = situation_of old.state old.menu; steps = steps i };
     }
 
 pub has_undone : (old new : Course) (past : Past) → old.history.items ≡ new.history.items ++ (past ∷ []) → new.state ≡ past.state
     → new.menu ≡ past.menu → HasUndone (progress_of old) (progress_of new)
 has_undone old new past longer state menu =
-    record { item = item_of past; dropped = one_more new old past longer (sym state) (sym menu) }
+    record { item = past_item_of past; dropped = one_more new old past longer (sym state) (sym menu) }
 
 every_before : {X : Type 0} (P : X → Type 0) (xs : List X) (x : X) → Every P (xs ++ (x ∷ [])) → Every P xs × P x
 every_before P [] x h = (tt, h.0)

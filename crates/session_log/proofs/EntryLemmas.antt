@@ -7,12 +7,12 @@ use Rattle.lotos_base.proofs.Members.{past_map, at_map}
 use Rattle.lotos_base.proofs.Pieces.{next_member}
 use Rattle.lotos_base.specs.Signature.{Signature}
 use Rattle.lotos_base.specs.Term.{Term}
-use Rattle.lotos_base.specs.Sorting.{IsGround, IsGroundOf, sort_of}
+use Rattle.lotos_base.specs.Sorting.{IsGround, IsGroundOf, head_sort_of}
 use Rattle.lotos_base.proofs.SortLemmas.{sort_of_sorted}
 use Rattle.behaviour_semantics.specs.Behaviour.{Test}
 use Rattle.behaviour_semantics.specs.Derives.{leaves_in}
 use Rattle.behaviour_semantics.specs.Fault.{first_of_two}
-use Rattle.behaviour_semantics.specs.Rule.{AreValues, is_same_sort}
+use Rattle.behaviour_semantics.specs.Rule.{AreValues, is_same_known_sort}
 use Rattle.behaviour_semantics.specs.Solving.{Entry as PlainEntry}
 use Rattle.behaviour_semantics.specs.WellFormed.{Every}
 use Rattle.behaviour_semantics.proofs.InstanceLemmas.{every_at}
@@ -150,7 +150,7 @@ given_ground signature (value ∷ values) terms ground = (
 
 -- the sort that a value tells is the one that its term has
 pub told_sort : (signature : Signature) (value : Sorted) → IsOf signature (profiled_in value)
-    → sort_of signature (term_in value) ≡ Some value.sort
+    → head_sort_of signature (term_in value) ≡ Some value.sort
 told_sort signature value is_of =
     sort_of_sorted signature (term_in value) (head_sort (profiled_in value))
     (fitting_has_sort signature (profiled_in value) is_of value.fits)
@@ -196,7 +196,7 @@ sort_here signature index sorts values sort value below is below_sorts is_sort t
     subst (λ (it : List Sorted). AreTermsOf signature (profiles_of it)) left terms in
     ap₂ (λ (ss : List ℕ) (vs : List Sorted). sort_refusal signature index ss (terms_of vs)) rest left
     ∙ ap (λ (b : Bool). if b then sort_refusal signature (suc index) (drop (index + 1) sorts) (terms_of (drop (index + 1) values))
-    else Some (value_sort index)) (ap (λ (o : Option ℕ). is_same_sort o (Some sort)) (told_sort signature value here.0)
+    else Some (value_sort index)) (ap (λ (o : Option ℕ). is_same_known_sort o (Some sort)) (told_sort signature value here.0)
     ∙ ne_eqb value.sort sort differ)
 
 pub sort_after : (signature : Signature) (index : ℕ) (sorts : List ℕ) (values : List Sorted) (sort : ℕ) (value : Sorted)
@@ -212,7 +212,7 @@ sort_after signature index sorts values sort value below is below_sorts is_sort 
     subst (λ (it : List Sorted). AreTermsOf signature (profiles_of it)) left terms in (
       ap₂ (λ (ss : List ℕ) (vs : List Sorted). sort_refusal signature index ss (terms_of vs)) rest left
           ∙ (ap (λ (b : Bool). if b then sort_refusal signature (suc index) (drop (index + 1) sorts) (terms_of (drop (index + 1) values))
-          else Some (value_sort index)) (ap (λ (o : Option ℕ). is_same_sort o (Some sort)) (told_sort signature value here.0)
+          else Some (value_sort index)) (ap (λ (o : Option ℕ). is_same_known_sort o (Some sort)) (told_sort signature value here.0)
           ∙ eq-eqb value.sort sort same)
           ∙ ap (λ (n : ℕ). sort_refusal signature n (drop (index + 1) sorts) (terms_of (drop (index + 1) values))) (sym (add-one index))),
       here.1,

@@ -58,15 +58,6 @@ digits_dropped (byte ∷ bytes) = by (is_ascii_digit byte) (digits_dropped bytes
     by true rest = rest ∙ ap (λ (n : ℕ). drop n (byte ∷ bytes)) (sym (add-one (digit_count bytes)))
     by false rest = refl
 
-pub all_are_digits : (text : List ℕ) → list_all is_ascii_digit (first_digits text) ≡ true
-all_are_digits [] = refl
-all_are_digits (byte ∷ bytes) = by (is_ascii_digit byte) refl (all_are_digits bytes)
-  where
-    by : (b : Bool) → is_ascii_digit byte ≡ b → list_all is_ascii_digit (first_digits bytes) ≡ true
-        → list_all is_ascii_digit (if b then byte ∷ first_digits bytes else []) ≡ true
-    by true e rest = ap (λ (b : Bool). b && list_all is_ascii_digit (first_digits bytes)) e ∙ rest
-    by false e rest = refl
-
 -- ---- The first arrow
 
 pub arrow_here : (position : ℕ) (line rest : List ℕ) → starts_with nat_eq rest arrow ≡ true → 0 < length rest
@@ -137,19 +128,19 @@ number_form digits =
     ap (λ (zero_first : Bool).
     (nat_lt 0 (length digits) && nat_lt (length digits) 11) && (nat_eq (length digits) 1 || not zero_first)) (by digits)
   where
-    by : (digits : List ℕ) → request.leads_with_zero digits ≡ plain.leads_with_zero digits
+    by : (digits : List ℕ) → request.begins_with_zero digits ≡ plain.leads_with_zero digits
     by [] = refl
     by (digit ∷ digits) = refl
 
 -- a number in a line of a session is one in a line of a trace
 number_as : (digits : List ℕ) → list_all is_ascii_digit digits ≡ true
-    → request.number_in digits ≡ (if plain.is_number digits then Some (digits_value 10 digits) else None)
+    → request.number_in_word digits ≡ (if plain.is_number digits then Some (digits_value 10 digits) else None)
 number_as digits all =
     ap₂ (λ (are_digits has_form : Bool). if are_digits && has_form then Some (digits_value 10 digits) else None) all
     (number_form digits)
 
 pub no_number : (digits rest label : List ℕ) (found : Option ℕ) → list_all is_ascii_digit digits ≡ true
-    → found ≡ request.number_in digits → found ≡ None → None ≡ plain.with_number digits rest label
+    → found ≡ request.number_in_word digits → found ≡ None → None ≡ plain.step_with_number digits rest label
 no_number digits rest label found all is none = by (plain.is_number digits) (sym none ∙ (is ∙ number_as digits all))
   where
     by : (b : Bool) → None ≡ (if b then Some (digits_value 10 digits) else None)
@@ -158,8 +149,8 @@ no_number digits rest label found all is none = by (plain.is_number digits) (sym
     by false e = refl
 
 pub number_there : (digits rest label : List ℕ) (found : Option ℕ) (number : ℕ) (said : Option StepLine)
-    → list_all is_ascii_digit digits ≡ true → found ≡ request.number_in digits → found ≡ Some number
-    → said ≡ plain.with_terms number rest label → said ≡ plain.with_number digits rest label
+    → list_all is_ascii_digit digits ≡ true → found ≡ request.number_in_word digits → found ≡ Some number
+    → said ≡ plain.with_terms number rest label → said ≡ plain.step_with_number digits rest label
 number_there digits rest label found number said all is some says =
     says ∙ by (plain.is_number digits) (sym some ∙ (is ∙ number_as digits all))
   where

@@ -1,5 +1,5 @@
 -- What comes of the lines of a trace.
-use Rattle.std.proofs.Common.{◌≡◌, ◌≢◌, ◌<◌, ◌≤◌, ◌+◌, ℕ, List, [], ◌∷◌, map, length, Bool, true, false, nat_eq, Option, Some, None, refl, ap, sym, ◌∙◌, subst, arith, eqb-true}
+use Rattle.std.proofs.Common.{◌≡◌, ◌≢◌, ◌<◌, ◌≤◌, ◌+◌, ℕ, List, [], ◌∷◌, map, length, Bool, true, false, nat_eq, Option, Some, None, refl, ap, sym, ◌∙◌, subst, arith}
 use Rattle.std.proofs.lemmas.List.{length-map}
 use Rattle.std.proofs.lemmas.Option.{none-some}
 use Rattle.lotos_base.specs.Signature.{Signature}
@@ -41,11 +41,11 @@ use Rattle.session_histories.specs.Refusal.{StepRefusal, entry_numbered, count_r
 use Rattle.session_histories.specs.Replay.{has_no_form, LineRefusal, bad_line, step_refused, label_differs, state_differs, LinesOutcome, goes_on, stops, ReplayRefusal, in_line, other_specification, AreRead, IsReadStep, shown_label, LineComesTo, is_not_read, is_miscounted, is_misread, is_unmet, is_mislabelled, is_replayed, LinesComeTo, all_done, one_stops, one_goes_on, StateComesTo, is_missing, has_no_state, is_elsewhere, is_there, first_line, shown_state, StatedLinesComeTo, all_stated, step_stops, state_stops, both_go_on, refuses_heading, ComeBehindName, ComeBehind, TraceComesTo, ReplayIs}
 use Rattle.behaviour_tree.specs.DefinitionView.{specification_of}
 use Rattle.behaviour_tree.specs.StateView.{state_of}
-use Rattle.session_histories.specs.TraceLine.{StepLine, step_line, lines_of, kept_state, Heading, no_heading, of_steps, of_states, heading_of}
+use Rattle.session_histories.specs.TraceLine.{StepLine, step_line, lines_of, kept_state, TraceHeading, no_heading, of_steps, of_states, trace_heading_of}
 use Rattle.session_histories.proofs.RefusalLemmas.{free_of_count, fit_sorts}
 use Rattle.session_log.proofs.EntryLemmas.{entry_there}
 use Rattle.session_log.specs.Entries.{IsEntryAt}
-use Rattle.session_log.specs.RefusalView.{TellsStep, TellsLine, TellsReplay, fault_at, IsInLine, line_fault_of, line_fault_of_text, line_fault_of_values}
+use Rattle.session_log.specs.RefusalView.{TellsStep, TellsLine, TellsReplay, replay_fault_at, IsInLine, line_fault_of, line_fault_of_text, line_fault_of_values}
 use Rattle.session_log.specs.CourseView.{basis_over, pasts_of, progress_of, situation_of}
 use Rattle.session_log.specs.declared.courses.Course.{Course}
 use Rattle.session_log.specs.declared.courses.Past.{Past}
@@ -64,14 +64,14 @@ use Rattle.session_log.specs.declared.refusals.StepRefusal.TheVariants as step
 -- ---- Faults of lines with their numbers
 
 pub told_at : (Is : LineRefusal → Type 0) (line : ℕ) (fault : LineFault) → TellsLine Is fault
-    → TellsReplay (IsInLine line Is) (fault_at fault line)
+    → TellsReplay (IsInLine line Is) (replay_fault_at fault line)
 told_at Is line line_fault.BadLine h = (refl, h)
 told_at Is line (line_fault.LabelDiffers kept found) h = (refl, h)
 told_at Is line (line_fault.StateDiffers kept found) h = (refl, h)
 told_at Is line (line_fault.Step refusal) h = (h.0, h.1, (refl, h.2))
 told_at Is line line_fault.NoMemory h = tt
 
-pub told_as : (Is : LineRefusal → Type 0) (line : ℕ) (fault : LineFault) (told : ReplayFault) → told ≡ fault_at fault line
+pub told_as : (Is : LineRefusal → Type 0) (line : ℕ) (fault : LineFault) (told : ReplayFault) → told ≡ replay_fault_at fault line
     → TellsLine Is fault → TellsReplay (IsInLine line Is) told
 told_as Is line fault told is h = subst (TellsReplay (IsInLine line Is)) (sym is) (told_at Is line fault h)
 
@@ -381,10 +381,6 @@ other_kept line kept found text keeps same why h =
     (subst (λ (it : List ℕ). IsStateRefusal line text (state_differs kept it)) (sym same)
     (keeps_other kept keeps (λ e. h.0 (e ∙ sym same))))
 
-pub none_there : (rest : List ℕ) → nat_eq (length rest) 0 ≡ true → rest ≡ []
-none_there [] is = refl
-none_there (byte ∷ rest) is = let e = eqb-true (length (byte ∷ rest)) 0 is in absurd (omega (arith, e))
-
 pub some_there : (rest : List ℕ) → nat_eq (length rest) 0 ≡ false → 0 < length rest
 some_there [] is = let never : true ≡ false = is in absurd (cc never)
 some_there (byte ∷ rest) is = omega arith
@@ -411,7 +407,7 @@ none_left basis progress number rest none =
 
 pub state_told : (basis : SessionBasis) (progress : Progress) (number : ℕ) (rest line more text : List ℕ)
     → lines_of rest ≡ line ∷ lines_of more → text ≡ shown_state basis progress → (fault : LineFault) (told : ReplayFault)
-    → told ≡ fault_at fault number → TellsLine (IsStateRefusal line text) fault
+    → told ≡ replay_fault_at fault number → TellsLine (IsStateRefusal line text) fault
     → TellsReplay (IsInLine number (λ why. StateComesTo basis progress (first_line (lines_of rest)) (stops why))) told
 state_told basis progress number rest line more text cut shown fault told is h =
     told_as (λ why. StateComesTo basis progress (first_line (lines_of rest)) (stops why)) number fault told is
@@ -429,46 +425,47 @@ over_same data_ other canon also P same same_canon h = subst (λ (d : Data). P d
 -- what comes behind the first line is what the whole comes to
 pub behind_first : (basis : SessionBasis) (first : Situation) (text line rest : List ℕ) (outcome : LinesOutcome ReplayRefusal)
     → (0 < length text → lines_of text ≡ line ∷ lines_of rest) → 0 < length text
-    → ComeBehind basis first (heading_of line) (lines_of rest) outcome → ReplayIs basis first text outcome
+    → ComeBehind basis first (trace_heading_of line) (lines_of rest) outcome → ReplayIs basis first text outcome
 behind_first basis first text line rest outcome cut some h =
     subst (λ (it : List (List ℕ)). TraceComesTo basis first it outcome) (sym (cut some)) h
 
 -- a text without a heading, which may be empty
 pub bad_heading : (basis : SessionBasis) (first : Situation) (text line rest : List ℕ)
-    → (0 < length text → lines_of text ≡ line ∷ lines_of rest) → heading_of line ≡ no_heading → ReplayIs basis first text refuses_heading
+    → (0 < length text → lines_of text ≡ line ∷ lines_of rest) → trace_heading_of line ≡ no_heading
+    → ReplayIs basis first text refuses_heading
 bad_heading basis first [] line rest cut none = refl
 bad_heading basis first (byte ∷ text) line rest cut none =
     behind_first basis first (byte ∷ text) line rest refuses_heading cut (omega arith)
-    (subst (λ (it : Heading). ComeBehind basis first it (lines_of rest) refuses_heading) (sym none) refl)
+    (subst (λ (it : TraceHeading). ComeBehind basis first it (lines_of rest) refuses_heading) (sym none) refl)
 
 -- a heading has a byte
-pub heading_some : (line text : List ℕ) → (heading_of line ≡ no_heading → ⊥) → length line ≤ length text → 0 < length text
+pub heading_some : (line text : List ℕ) → (trace_heading_of line ≡ no_heading → ⊥) → length line ≤ length text → 0 < length text
 heading_some [] text heading within = absurd (heading refl)
 heading_some (byte ∷ line) text heading within = omega (arith, within)
 
 -- lines of steps behind their heading
 pub replayed_behind : (basis : SessionBasis) (course : Course) (text line rest : List ℕ)
-    → (0 < length text → lines_of text ≡ line ∷ lines_of rest) → length line ≤ length text → heading_of line ≡ of_steps
+    → (0 < length text → lines_of text ≡ line ∷ lines_of rest) → length line ≤ length text → trace_heading_of line ≡ of_steps
     → course.history.items ≡ [] → (outcome : LinesOutcome ReplayRefusal)
     → LinesComeTo basis 2 (progress_of course) (lines_of rest) outcome
     → ReplayIs basis (situation_of course.state course.menu) text outcome
 replayed_behind basis course text line rest cut within heading none outcome h =
     behind_first basis (situation_of course.state course.menu) text line rest outcome cut
     (heading_some line text (λ other. absurd (cc (other, heading))) within)
-    (subst (λ (it : Heading). ComeBehind basis (situation_of course.state course.menu) it (lines_of rest) outcome) (sym heading)
+    (subst (λ (it : TraceHeading). ComeBehind basis (situation_of course.state course.menu) it (lines_of rest) outcome) (sym heading)
     (subst (λ (it : List Past). LinesComeTo basis 2 (record { situation = situation_of course.state course.menu; steps = pasts_of it })
     (lines_of rest) outcome) none h))
 
 -- lines of steps and states behind a heading with a name
 pub named_behind : (basis : SessionBasis) (course : Course) (text line rest kept : List ℕ)
-    → (0 < length text → lines_of text ≡ line ∷ lines_of rest) → length line ≤ length text → heading_of line ≡ of_states kept
+    → (0 < length text → lines_of text ≡ line ∷ lines_of rest) → length line ≤ length text → trace_heading_of line ≡ of_states kept
     → course.history.items ≡ [] → (outcome : LinesOutcome ReplayRefusal)
     → ComeBehindName basis (situation_of course.state course.menu) (one_name kept basis.specification.name) kept (lines_of rest) outcome
     → ReplayIs basis (situation_of course.state course.menu) text outcome
 named_behind basis course text line rest kept cut within heading none outcome h =
     behind_first basis (situation_of course.state course.menu) text line rest outcome cut
     (heading_some line text (λ other. absurd (cc (other, heading))) within)
-    (subst (λ (it : Heading). ComeBehind basis (situation_of course.state course.menu) it (lines_of rest) outcome) (sym heading) h)
+    (subst (λ (it : TraceHeading). ComeBehind basis (situation_of course.state course.menu) it (lines_of rest) outcome) (sym heading) h)
 
 pub stated_behind : (basis : SessionBasis) (course : Course) (rest kept : List ℕ)
     → one_name kept basis.specification.name ≡ true → course.history.items ≡ [] → (outcome : LinesOutcome ReplayRefusal)

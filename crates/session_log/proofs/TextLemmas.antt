@@ -14,7 +14,7 @@ use Rattle.behaviour_tree.specs.declared.states.State.{State}
 use Rattle.menu_builder.specs.HandedOn.{Menu}
 use Rattle.session_histories.specs.Session.{Situation, first_of}
 use Rattle.session_histories.specs.TraceText.{ended, step_text, line_of_state, stated_steps}
-use Rattle.session_log.specs.CourseView.{item_of, pasts_of, situation_of}
+use Rattle.session_log.specs.CourseView.{past_item_of, pasts_of, situation_of}
 use Rattle.session_log.specs.Courses.{oldest_state, behind_state}
 use Rattle.session_log.specs.declared.courses.Course.{Course}
 use Rattle.session_log.specs.declared.courses.Past.{Past}
@@ -33,14 +33,14 @@ pub two_lines_more : (signature : Signature) (spec : Spec) (course : Course) (in
     → index < length course.history.items → past ≡ get_or course.history.items index past
     → was ++ stated_steps (signature_of signature) (specification_of spec) (situation_of course.state course.menu)
     (pasts_of (drop index course.history.items)) ≡ start
-    → now ≡ was ++ ended (step_text (signature_of signature) (map spelling spec.gate_names.items) (item_of past))
+    → now ≡ was ++ ended (step_text (signature_of signature) (map spelling spec.gate_names.items) (past_item_of past))
     → after ≡ now ++ ended (line_of_state (signature_of signature) (specification_of spec) (state_of (behind_state course index)))
     → after ++ stated_steps (signature_of signature) (specification_of spec) (situation_of course.state course.menu)
     (pasts_of (drop (index + 1) course.history.items)) ≡ start
 two_lines_more signature spec course index past was now after start below is before written then_ =
     let last : Situation = situation_of course.state course.menu in
     let rest : List Past = drop (index + 1) course.history.items in
-    let step : List ℕ = ended (step_text (signature_of signature) (map spelling spec.gate_names.items) (item_of past)) in
+    let step : List ℕ = ended (step_text (signature_of signature) (map spelling spec.gate_names.items) (past_item_of past)) in
     let state : List ℕ = ended (line_of_state (signature_of signature) (specification_of spec) (state_of (behind_state course index))) in
     let more : List ℕ = stated_steps (signature_of signature) (specification_of spec) last (pasts_of rest) in
     ap (λ (it : List ℕ). it ++ more) (then_ ∙ ap (λ (it : List ℕ). it ++ state) written)

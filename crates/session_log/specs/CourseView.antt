@@ -19,8 +19,8 @@ abbrev pub basis_over : Data → (Term → Term) → Spec → SessionBasis
 basis_over data_ canon spec = record { data_ = data_; canon = canon; specification = specification_of spec }
 
 -- a step, with the situation that it was taken in
-abbrev pub item_of : Past → Item
-item_of past = record {
+abbrev pub past_item_of : Past → Item
+past_item_of past = record {
   number = past.number;
   values = terms_of past.values.items;
   derivation = derivation_of past.derivation;
@@ -31,7 +31,7 @@ abbrev pub situation_of : State → Menu → Situation
 situation_of state menu = record { state = state_of state; menu = entries_in menu }
 
 abbrev pub past_of : Past → PastStep
-past_of past = record { item = item_of past; before = situation_of past.state past.menu }
+past_of past = record { item = past_item_of past; before = situation_of past.state past.menu }
 
 abbrev pub pasts_of : List Past → List PastStep
 pasts_of history = map past_of history

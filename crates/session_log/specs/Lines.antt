@@ -13,11 +13,11 @@ abbrev pub said_by : StepLine → plain.StepLine
 said_by said = record { number = said.number; terms = said.terms.now; label = said.label.now }
 
 -- the bytes that are borrowed
-abbrev pub bytes_of : Bor (List ℕ) → List ℕ
-bytes_of bytes = bytes.now
+abbrev pub borrowed_bytes : Bor (List ℕ) → List ℕ
+borrowed_bytes bytes = bytes.now
 
 -- what the first line says
-abbrev pub heading_said : Heading → plain.Heading
+abbrev pub heading_said : Heading → plain.TraceHeading
 heading_said NoHeading = plain.no_heading
 heading_said OfSteps = plain.of_steps
 heading_said (OfStates name) = plain.of_states name.now

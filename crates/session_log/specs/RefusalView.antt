@@ -67,12 +67,12 @@ TellsLine Is (line_fault.Step refusal) = TellsStepOf Is refusal
 TellsLine Is line_fault.NoMemory = Unit {0}
 
 -- the fault of a line with its number
-abbrev pub fault_at : LineFault → ℕ → ReplayFault
-fault_at line_fault.BadLine line = replay.BadLine line
-fault_at (line_fault.LabelDiffers kept found) line = replay.LabelDiffers line kept found
-fault_at (line_fault.StateDiffers kept found) line = replay.StateDiffers line kept found
-fault_at (line_fault.Step refusal) line = replay.Step line refusal
-fault_at line_fault.NoMemory line = replay.NoMemory
+abbrev pub replay_fault_at : LineFault → ℕ → ReplayFault
+replay_fault_at line_fault.BadLine line = replay.BadLine line
+replay_fault_at (line_fault.LabelDiffers kept found) line = replay.LabelDiffers line kept found
+replay_fault_at (line_fault.StateDiffers kept found) line = replay.StateDiffers line kept found
+replay_fault_at (line_fault.Step refusal) line = replay.Step line refusal
+replay_fault_at line_fault.NoMemory line = replay.NoMemory
 
 -- the reason at this line is one that the relation has
 abbrev pub At : (ReplayRefusal → Type 0) → ℕ → LineRefusal → Type 0

@@ -11,7 +11,7 @@ ghost use Rattle.session_histories.specs.TraceLine.{
 ghost use Rattle.session_histories.specs.TraceText.{arrow};
 ghost use Rattle.session_log.specs.Lines.{
   around_at,
-  bytes_of,
+  borrowed_bytes,
   digit_count,
   heading_said,
   IsLongHeading,
@@ -113,7 +113,7 @@ pub fn step_line(line: &[u8]) -> Option<StepLine<'_>>
 /// What the line says as the first one of a trace: `lotos-trace 1`, or `lotos-trace 2 NAME` with at
 /// least one byte for NAME. A line with a carriage return is no heading.
 pub fn read_heading(line: &[u8]) -> Heading<'_>
-    ensures says { heading_said result ≡ plain.heading_of line.now }
+    ensures says { heading_said result ≡ plain.trace_heading_of line.now }
     ensures long { IsLongHeading result line.now }
 {
     if line == b"lotos-trace 1".as_slice() {
@@ -128,7 +128,7 @@ pub fn read_heading(line: &[u8]) -> Heading<'_>
 // The heading of the line with this name, which has a byte or is none.
 fn with_name<'a>(line: &[u8], name: &'a [u8]) -> Heading<'a>
     requires { 14 ≤ length line.now }
-    ensures says { heading_said result ≡ plain.with_name (Some name.now) }
+    ensures says { heading_said result ≡ plain.heading_with_name (Some name.now) }
     ensures long { IsLongHeading result line.now }
 {
     match name {
@@ -140,14 +140,14 @@ fn with_name<'a>(line: &[u8], name: &'a [u8]) -> Heading<'a>
 /// The text of the state that the line keeps, if it has the form `at STATE`. A line with a carriage
 /// return has it not.
 pub fn kept_state(line: &[u8]) -> Option<&[u8]>
-    ensures { option_map bytes_of result ≡ plain.kept_state line.now }
+    ensures { option_map borrowed_bytes result ≡ plain.kept_state line.now }
 {
     behind_mark(b"at ", line)
 }
 
 // What stands behind the mark, if the line begins with it and has no carriage return.
 fn behind_mark<'a>(mark: &[u8], line: &'a [u8]) -> Option<&'a [u8]>
-    ensures behind { option_map bytes_of result ≡ plain.behind_mark mark.now line.now }
+    ensures behind { option_map borrowed_bytes result ≡ plain.behind_mark mark.now line.now }
     ensures within { IfSome result (λ _. length mark.now ≤ length line.now) }
 {
     if holds_return(line) {
@@ -207,7 +207,7 @@ fn begins_with_arrow(bytes: &[u8]) -> bool
 // What the two sides of the arrow say.
 fn with_number<'a>(before: &'a [u8], label: &'a [u8]) -> Option<StepLine<'a>>
     ensures says { option_map said_by result
-        ≡ plain.with_number (first_digits before.now) (behind_digits before.now) label.now }
+        ≡ plain.step_with_number (first_digits before.now) (behind_digits before.now) label.now }
     ensures within { IfSome result (λ said. length said.terms.now ≤ length before.now) }
 {
     let count = leading_digits(before);
@@ -218,7 +218,8 @@ fn with_number<'a>(before: &'a [u8], label: &'a [u8]) -> Option<StepLine<'a>>
 #[tactic(auto, using(crate::proofs::LineLemmas::no_number, crate::proofs::LineLemmas::number_there))]
 fn with_digits<'a>(digits: &'a [u8], rest: &'a [u8], label: &'a [u8]) -> Option<StepLine<'a>>
     requires { list_all is_ascii_digit digits.now ≡ true }
-    ensures says { option_map said_by result ≡ plain.with_number digits.now rest.now label.now }
+    ensures says { option_map said_by result
+        ≡ plain.step_with_number digits.now rest.now label.now }
     ensures within { IfSome result (λ said. length said.terms.now ≤ length rest.now) }
 {
     match number_in(digits) {

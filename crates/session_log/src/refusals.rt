@@ -1,6 +1,6 @@
 //! Why steps and traces are refused.
 
-ghost use Rattle.session_log.specs.RefusalView.{fault_at};
+ghost use Rattle.session_log.specs.RefusalView.{replay_fault_at};
 ghost use Rattle.std.specs.Prelude.{◌≡◌};
 
 use lotos_base::NoMemory;
@@ -214,7 +214,7 @@ impl From<Refusal> for LineFault {
 impl LineFault {
     /// The fault of the line with this number.
     pub fn at(self, line: u32) -> ReplayFault
-        ensures { result ≡ fault_at self line }
+        ensures { result ≡ replay_fault_at self line }
     {
         match self {
             LineFault::BadLine => ReplayFault::BadLine { line },

@@ -10,7 +10,7 @@ ghost use Rattle.session_histories.specs.TraceText.{
   step_text,
   trace_heading,
 };
-ghost use Rattle.session_log.specs.CourseView.{item_of};
+ghost use Rattle.session_log.specs.CourseView.{past_item_of};
 ghost use Rattle.session_log.specs.Courses.{AreClosedStates, written_trace};
 ghost use Rattle.session_log.specs.RefusalView.{TellsLength};
 ghost use Rattle.sort_terms.specs.SignatureView.{signature_of};
@@ -100,7 +100,7 @@ fn push_step(
 ) -> Result<(), NoMemory>
     ensures { OnOk result (into.new.items ≡ into.old.items
         ++ ended (step_text (signature_of signature.now) (map spelling gates.now)
-        (item_of past.now))) }
+        (past_item_of past.now))) }
 {
     push_number(into, past.number as u128)?;
     push_given(signature, &past.values, into)?;

@@ -8,16 +8,14 @@ use Rattle.std.proofs.Math.Seq.{drop-cons}
 use Rattle.lotos_base.proofs.Members.{at_map}
 use Rattle.lotos_base.specs.Signature.{Signature}
 use Rattle.sort_terms.specs.ProfiledTerm.{ProfiledTerm, ProfiledTerms, profiled_node, no_profiled_terms, profiled_term_then, profiled_variable}
-use Rattle.sort_terms.specs.Tables.{built_from, all_built_from, node_with, profiled_cons, term_if}
+use Rattle.sort_terms.specs.Tables.{built_from, all_built_from, node_with, profiled_cons}
 use Rattle.sort_terms.specs.TableView.{table_of, tables_of}
 use Rattle.sort_terms.specs.TermView.{all_profiled, profiled_of}
-use Rattle.sort_terms.specs.ChoicesView.{choice_at}
-use Rattle.sort_terms.specs.declared.counted.Counted.{Counted, out-Counted}
+use Rattle.sort_terms.specs.declared.counted.Counted.{Counted}
 use Rattle.sort_terms.specs.declared.operations.Op.{Op}
 use Rattle.sort_terms.specs.declared.terms.Term.{Term}
 use Rattle.sort_terms.specs.declared.terms.Term.TheVariants.{Node, Var}
 use Rattle.sort_terms.specs.Operations.{operation_of}
-use Rattle.sort_terms.proofs.CountedLemmas.{counted_opened}
 use Rattle.sort_terms.proofs.TermListLemmas.{with_last_profiled, all_profiled-append}
 
 -- one list behind another one
@@ -29,10 +27,6 @@ joined_lists (profiled_term_then p ps) qs = profiled_term_then p (joined_lists p
 abbrev pub behind : ProfiledTerms → Option ProfiledTerms → Option ProfiledTerms
 behind ps None = None
 behind ps (Some qs) = Some (joined_lists ps qs)
-
-pub nothing_before : (o : Option ProfiledTerms) → o ≡ behind no_profiled_terms o
-nothing_before None = refl
-nothing_before (Some qs) = refl
 
 pub other_length_built : (signature : Signature) (sorts : List ℕ) (arguments : List Counted) → ¬ (length arguments ≡ length sorts)
     → None ≡ all_built_from signature (tables_of arguments) sorts
@@ -69,18 +63,6 @@ behind_more : (ps : ProfiledTerms) (p : ProfiledTerm) (o : Option ProfiledTerms)
 behind_more ps p None = refl
 behind_more ps p (Some qs) = ap (λ (rs : ProfiledTerms). Some rs) (joined_last ps p qs)
 
--- an argument that cannot be built
-pub unbuilt : (signature : Signature) (sorts : List ℕ) (arguments : List Counted) (i s : ℕ) (a : Counted) (ps : ProfiledTerms)
-    → i < length sorts → i < length arguments → s ≡ get_or sorts i s → a ≡ get_or arguments i a
-    → None ≡ built_from signature (table_of a) s
-    → all_built_from signature (tables_of arguments) sorts
-    ≡ behind ps (all_built_from signature (tables_of (drop i arguments)) (drop i sorts))
-    → None ≡ all_built_from signature (tables_of arguments) sorts
-unbuilt signature sorts arguments i s a ps within inside is at none so_far =
-    sym (so_far ∙ ap (λ (o : Option ProfiledTerms). behind ps o) (dropped_built signature sorts arguments i s a within inside is at
-    ∙ ap (λ (o : Option ProfiledTerm). profiled_cons o (all_built_from signature (tables_of (drop (suc i) arguments)) (drop (suc i) sorts)))
-    (sym none)))
-
 -- one more argument
 pub built_more : (signature : Signature) (sorts : List ℕ) (arguments : List Counted) (i s : ℕ) (a : Counted) (old new : List Term)
     (t : Term)
@@ -116,13 +98,6 @@ built_wholly signature sorts arguments i made none nothing so_far =
     (all_built_from signature (tables_of rest) (drop i sorts))) nothing
     ∙ ap (λ (ss : List ℕ). behind (all_profiled made) (all_built_from signature (tables_of []) ss)) none
     ∙ ap (λ (ps : ProfiledTerms). Some ps) (joined_nothing (all_profiled made)))
-
--- what a counted term tells, by its choices and arguments
-pub built_opened : (signature : Signature) (a : Counted) (s : ℕ)
-    → built_from signature (table_of a) s
-    ≡ term_if signature s (λ sorts. all_built_from signature (tables_of (out-Counted a).arguments.items) sorts)
-    (choice_at (out-Counted a).choices s)
-built_opened signature a s = ap (λ t. built_from signature t s) (counted_opened a)
 
 pub profiled_Node : (number : ℕ) (made : Rc Op Global) (arguments : ProfiledTerms)
     → profiled_of (Node number made arguments) ≡ profiled_node number (operation_of made.value) arguments

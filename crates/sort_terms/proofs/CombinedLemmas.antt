@@ -3,7 +3,7 @@ use Rattle.std.proofs.Common.{◌≡◌, ℕ, suc, ◌+◌, ◌<◌, get_or, Boo
 use Rattle.std.specs.Prelude.{Option, Some, None, ◌||◌}
 use Rattle.std.proofs.Math.Seq.{drop-cons}
 use Rattle.sort_terms.specs.ChoicesView.{choice_at}
-use Rattle.sort_terms.specs.Tables.{Table, combined, with_argument, choice_in}
+use Rattle.sort_terms.specs.Tables.{Table, combined, with_argument_read, choice_at_sort}
 use Rattle.sort_terms.specs.TableView.{table_level, table_of, tables_of}
 use Rattle.sort_terms.specs.declared.choices.Choice.{Choice}
 use Rattle.sort_terms.specs.declared.counted.Counted.{Counted, out-Counted}
@@ -14,7 +14,7 @@ abbrev pub with_several : Bool → Option Bool → Option Bool
 with_several b None = None
 with_several b (Some several) = Some (b || several)
 
-none_then : (c : Option Choice) → with_argument c None ≡ None
+none_then : (c : Option Choice) → with_argument_read c None ≡ None
 none_then None = refl
 none_then (Some c) = refl
 
@@ -25,18 +25,18 @@ other_length [] [] differ = absurd (differ refl)
 other_length [] (a ∷ arguments) differ = refl
 other_length (s ∷ sorts) [] differ = refl
 other_length (s ∷ sorts) (a ∷ arguments) differ =
-    sym (none_then (choice_in (table_of a) s))
-    ∙ ap (λ (r : Option Bool). with_argument (choice_in (table_of a) s) r)
+    sym (none_then (choice_at_sort (table_of a) s))
+    ∙ ap (λ (r : Option Bool). with_argument_read (choice_at_sort (table_of a) s) r)
     (other_length sorts arguments (λ same. differ (ap (λ (n : ℕ). suc n) same)))
 
 -- what the table of a counted term has at a sort
-pub table_choices : (a : Counted) (s : ℕ) → choice_in (table_of a) s ≡ choice_at (out-Counted a).choices s
-table_choices a s = ap (λ (t : Table). choice_in t s) (fold_out-Counted Table table_level a)
+pub table_choices : (a : Counted) (s : ℕ) → choice_at_sort (table_of a) s ≡ choice_at (out-Counted a).choices s
+table_choices a s = ap (λ (t : Table). choice_at_sort t s) (fold_out-Counted Table table_level a)
 
 dropped : (sorts : List ℕ) (arguments : List Counted) (i s : ℕ) (a : Counted) → i < length sorts → i < length arguments
     → s ≡ get_or sorts i s → a ≡ get_or arguments i a
     → combined (drop i sorts) (tables_of (drop i arguments))
-    ≡ with_argument (choice_in (table_of a) s) (combined (drop (suc i) sorts) (tables_of (drop (suc i) arguments)))
+    ≡ with_argument_read (choice_at_sort (table_of a) s) (combined (drop (suc i) sorts) (tables_of (drop (suc i) arguments)))
 dropped sorts arguments i s a within inside is at =
     ap (λ (ss : List ℕ). combined ss (tables_of (drop i arguments)))
     (drop-cons sorts i s within ∙ ap (λ (x : ℕ). x ∷ drop (suc i) sorts) (sym is))
@@ -51,11 +51,11 @@ pub combined_none : (sorts : List ℕ) (arguments : List Counted) (i s : ℕ) (a
 combined_none sorts arguments i s a b within inside is at none so_far =
     let nothing : combined (drop i sorts) (tables_of (drop i arguments)) ≡ None =
     dropped sorts arguments i s a within inside is at
-    ∙ ap (λ (c : Option Choice). with_argument c (combined (drop (suc i) sorts) (tables_of (drop (suc i) arguments))))
+    ∙ ap (λ (c : Option Choice). with_argument_read c (combined (drop (suc i) sorts) (tables_of (drop (suc i) arguments))))
     (table_choices a s ∙ sym none) in
     sym (so_far ∙ ap (λ (r : Option Bool). with_several b r) nothing)
 
-with_one_more : (b : Bool) (c : Choice) (r : Option Bool) → with_several b (with_argument (Some c) r) ≡ with_several (b || c.several) r
+with_one_more : (b : Bool) (c : Choice) (r : Option Bool) → with_several b (with_argument_read (Some c) r) ≡ with_several (b || c.several) r
 with_one_more b c None = refl
 with_one_more true c (Some r) = refl
 with_one_more false c (Some r) = refl
@@ -70,7 +70,7 @@ combined_more sorts arguments i s a b d c within inside is at some both so_far =
     let next : i + 1 ≡ suc i = omega arith in
     so_far
     ∙ ap (λ (r : Option Bool). with_several b r) (dropped sorts arguments i s a within inside is at
-    ∙ ap (λ (o : Option Choice). with_argument o (combined (drop (suc i) sorts) (tables_of (drop (suc i) arguments))))
+    ∙ ap (λ (o : Option Choice). with_argument_read o (combined (drop (suc i) sorts) (tables_of (drop (suc i) arguments))))
     (table_choices a s ∙ sym some))
     ∙ with_one_more b c (combined (drop (suc i) sorts) (tables_of (drop (suc i) arguments)))
     ∙ ap (λ (x : Bool). with_several x (combined (drop (suc i) sorts) (tables_of (drop (suc i) arguments)))) (sym both)

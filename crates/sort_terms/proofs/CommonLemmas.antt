@@ -8,7 +8,7 @@ use Rattle.std.specs.Ordering.{nat_cmp}
 use Rattle.std.specs.declared.cmp.Ordering.TheVariants.{Less}
 use Rattle.std.proofs.lemmas.Bool.{eqb-true, eq-eqb, both_ways}
 use Rattle.std.proofs.lemmas.Option.{none-some}
-use Rattle.sort_terms.specs.Choices.{both, joined}
+use Rattle.sort_terms.specs.Choices.{both, joined_readings}
 use Rattle.sort_terms.specs.declared.choices.Choice.{Choice}
 use Rattle.sort_terms.proofs.ChoiceLemmas.{Entries, at, at_first, at_later}
 
@@ -22,14 +22,6 @@ pub record CommonSoFar (rest : Entries) (made other whole : ℕ → Option Choic
   pub sorted : IsStrictlySortedBy nat_cmp (keys_of rest)
   pub all : (s : ℕ) → both (whole s) (other s) ≡ or_else (made s) (both (at s rest) (other s))
   pub later : (s : ℕ) (c : Choice) → at s rest ≡ Some c → made s ≡ None
-
-pub common_begins : (es : Entries) (made other : ℕ → Option Choice) → IsStrictlySortedBy nat_cmp (keys_of es) → ((s : ℕ) → made s ≡ None)
-    → CommonSoFar es made other (λ s. at s es)
-common_begins es made other sorted none = record {
-  sorted = sorted;
-  all = λ s. sym (ap (λ (c : Option Choice). or_else c (both (at s es) (other s))) (none s));
-  later = λ s c found. none s;
-}
 
 not_later : (k : ℕ) (es : Entries) → AllByRecursion (λ y. nat_cmp k y ≡ Less) (keys_of es) → at k es ≡ None
 not_later k [] below = refl
@@ -78,7 +70,7 @@ common_passed rest es k ch made other whole is none so_far =
 -- a sort that both have
 pub common_added : (rest es : Entries) (k : ℕ) (ch second : Choice) (several : Bool) (made new other whole : ℕ → Option Choice)
     → rest ≡ (k, ch) ∷ es → Some second ≡ other k → several ≡ (ch.several || second.several)
-    → ((s : ℕ) → new s ≡ (if nat_eq s k then joined (made k) ch.source several else made s))
+    → ((s : ℕ) → new s ≡ (if nat_eq s k then joined_readings (made k) ch.source several else made s))
     → CommonSoFar rest made other whole → CommonSoFar es new other whole
 common_added rest es k ch second several made new other whole is there are added so_far =
     go (subst (λ (xs : Entries). CommonSoFar xs made other whole) is so_far)
@@ -94,7 +86,7 @@ common_added rest es k ch second several made new other whole is there are added
         none_made = now.later k ch (at_first k ch es)
 
         new_here : new k ≡ Some (record { source = ch.source; several = several })
-        new_here = added k ∙ rw (eq-eqb k k refl) (ap (λ (o : Option Choice). joined o ch.source several) none_made)
+        new_here = added k ∙ rw (eq-eqb k k refl) (ap (λ (o : Option Choice). joined_readings o ch.source several) none_made)
 
         new_elsewhere : (s : ℕ) → nat_eq s k ≡ false → new s ≡ made s
         new_elsewhere s differ = added s ∙ rw differ refl
@@ -120,13 +112,3 @@ common_added rest es k ch second several made new other whole is there are added
         later s c found true same =
             absurd (none-some c (sym (ap (λ (r : ℕ). at r es) (eqb-true s k same) ∙ first_gone k ch es now.sorted) ∙ found))
         later s c found false differ = new_elsewhere s differ ∙ now.later s c (at_later s k ch es (differs s k differ) ∙ found)
-
-or_nothing : (c : Option Choice) → or_else c None ≡ c
-or_nothing None = refl
-or_nothing (Some c) = refl
-
--- all sorts were looked at
-pub common_all : (rest : Entries) (made other whole : ℕ → Option Choice) → rest ≡ [] → CommonSoFar rest made other whole
-    → (s : ℕ) → made s ≡ both (whole s) (other s)
-common_all rest made other whole is so_far s =
-    sym (so_far.all s ∙ ap (λ (es : Entries). or_else (made s) (both (at s es) (other s))) is ∙ or_nothing (made s))

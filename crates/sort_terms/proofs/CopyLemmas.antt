@@ -1,6 +1,7 @@
 -- Terms that are copied one after another.
 use Rattle.std.proofs.Common.{Global, refl, ap, sym, ◌∙◌, ◌≡◌, ℕ, suc, List, [], ◌∷◌, ◌++◌, length, map, take, drop}
 use Rattle.std.specs.declared.rc.Rc.{Rc}
+use Rattle.std.proofs.Math.Seq.{take-append_seam}
 use Rattle.sort_terms.specs.MadeTerms.{before, made_of}
 use Rattle.sort_terms.specs.Operations.{operation_of}
 use Rattle.sort_terms.specs.ProfiledTerm.{ProfiledTerm, profiled_node}
@@ -31,10 +32,6 @@ taken_more old now next taken more t was is grown =
 
 -- ---- An operation.
 
-front : {X : Type 0} (xs rest : List X) → take (length xs) (xs ++ rest) ≡ xs
-front [] rest = refl
-front (x ∷ xs) rest = ap (λ ys. x ∷ ys) (front xs rest)
-
 behind : {X : Type 0} (xs rest : List X) → drop (length xs) (xs ++ rest) ≡ rest
 behind [] rest = refl
 behind (x ∷ xs) rest = behind xs rest
@@ -53,5 +50,5 @@ head_copied op count profile ts made many =
     ap (λ n. profiled_node op (operation_of profile.value) (profiled_terms (take n (map profiled_of ts ++ made)))
     ∷ drop n (map profiled_of ts ++ made)) e
     ∙ ap (λ us. profiled_node op (operation_of profile.value) (profiled_terms us)
-    ∷ drop (length (map profiled_of ts)) (map profiled_of ts ++ made)) (front (map profiled_of ts) made)
+    ∷ drop (length (map profiled_of ts)) (map profiled_of ts ++ made)) (take-append_seam (map profiled_of ts) made)
     ∙ ap (λ us. profiled_node op (operation_of profile.value) (profiled_terms (map profiled_of ts)) ∷ us) (behind (map profiled_of ts) made)

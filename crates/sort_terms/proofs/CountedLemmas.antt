@@ -18,7 +18,7 @@ use Rattle.lotos_base.specs.Equation.{Variable as DeclaredVariable}
 use Rattle.lotos_base.specs.Term.{Term}
 use Rattle.sort_terms.specs.Positions.{positions_of}
 use Rattle.sort_terms.specs.Reading.{Reads, IsBare, IsVisible, IsLastNamed, NoneNamed}
-use Rattle.sort_terms.specs.Tables.{Table, Tables, table, gathered, offered, only_variable}
+use Rattle.sort_terms.specs.Tables.{Table, Tables, table, gathered, operation_offered, only_variable}
 use Rattle.sort_terms.specs.TableView.{table_level, table_of, tables_of}
 use Rattle.sort_terms.specs.Suiting.{source_of, Means, Suits, AllSuit}
 use Rattle.sort_terms.specs.ChoicesView.{choice_at}
@@ -62,7 +62,7 @@ variable_node signature scope w asked v choices asks bare last are s =
 pub operation_node : (signature : Signature) (scope : List DeclaredVariable) (w : Written) (ts : Tables) (asked : Asked)
     (choices : ℕ → Option Choice) → AllSuit signature scope (arguments_of w) ts → AllowsAsked signature (head_of w) asked
     → IsVisible scope (head_of w) (arguments_of w)
-    → ((s : ℕ) → choices s ≡ gathered (offered signature (head_of w).form asked ts) s None
+    → ((s : ℕ) → choices s ≡ gathered (operation_offered signature (head_of w).form asked ts) s None
     (positions_of (folded (head_of w).name) (map (λ o. o.name) signature.operations)))
     → (s : ℕ) → Means (λ t. Reads signature scope (written_term_of w) t s) (choices s)
 operation_node signature scope w ts asked choices suits asks visible are s =

@@ -1,15 +1,16 @@
 -- What is known of terms without a look at them.
-use Rattle.std.proofs.Common.{arith, refl, ap, sym, ◌∙◌, ◌≡◌, ◌<◌, ℕ, suc, List, length, get_or, take, subst, ◌+◌, ◌-◌, ◌^◌, ◌%◌, Bool, true, false, ◌&&◌, ◌||◌, min, max, nat_eq, bit_or}
+use Rattle.std.proofs.Common.{arith, refl, ap, sym, ◌∙◌, ◌≡◌, ◌<◌, ℕ, suc, List, length, get_or, take, subst, ◌+◌, ◌-◌, ◌^◌, ◌%◌, Bool, true, false, ◌&&◌, ◌||◌, min, max, bit_or}
 use Rattle.std.specs.Int.{bit_at}
 use Rattle.std.proofs.lemmas.Nat.Bits.{bit_at_or, bit_at_ones, bit_at-lt, bit_at-pow_same}
 use Rattle.lotos_base.specs.Sorting.{IsGround, AreGround}
 use Rattle.lotos_base.specs.Tests.{occurs, occurs_among}
 use Rattle.lotos_base.specs.Term.{Term, Terms, variable, node, no_terms, term_then}
-use Rattle.sort_terms.specs.Known.{nodes_of, all_nodes_of, HasBit, HasBits, HaveBits, HoldOf, HoldOfAll, nothing_known, no_terms_known, variable_known, known_with, known_above, may_be_one}
+use Rattle.lotos_base.proofs.Pieces.{take_member}
+use Rattle.sort_terms.specs.Known.{nodes_of, all_nodes_of, HasBit, HasBits, HaveBits, HoldOf, HoldOfAll, nothing_known, no_terms_known, variable_known, known_with, known_above}
 use Rattle.sort_terms.specs.declared.facts.Facts.{Facts}
-use Rattle.sort_terms.specs.TermView.{term_of, terms_of}
+use Rattle.sort_terms.specs.TermView.{term_of, bare_terms_of}
 use Rattle.sort_terms.specs.declared.terms.Term.{Term as CodeTerm}
-use Rattle.sort_terms.proofs.TermListLemmas.{with_last, take_item, terms_of-append}
+use Rattle.sort_terms.proofs.TermListLemmas.{with_last, terms_of-append}
 
 -- ---- Bits
 
@@ -54,9 +55,6 @@ mutual
   all_bits_each (term_then t ts) = (all_bits t, all_bits_each ts)
 
 -- ---- Facts of no terms, of a variable and of any term
-
-pub nothing_holds : (t : Term) → HoldOf nothing_known t
-nothing_holds t = ((λ is. let no : false ≡ true = is in cc), (λ told. absurd (told refl)), all_bits t)
 
 pub nothing_holds_all : (ts : Terms) → HoldOfAll nothing_known ts
 nothing_holds_all ts = ((λ is. let no : false ≡ true = is in cc), (λ told. absurd (told refl)), all_bits_each ts)
@@ -126,12 +124,12 @@ known_node facts f ts all = (
 
 -- one term of the list more
 pub next_known : (facts other : Facts) (last : Bool) (xs : List CodeTerm) (i : ℕ) (x : CodeTerm) → i < length xs → x ≡ get_or xs i x
-    → HoldOfAll facts (terms_of (take i xs)) → HoldOf other (term_of x)
-    → HoldOfAll (known_with facts other last) (terms_of (take (i + 1) xs))
+    → HoldOfAll facts (bare_terms_of (take i xs)) → HoldOf other (term_of x)
+    → HoldOfAll (known_with facts other last) (bare_terms_of (take (i + 1) xs))
 next_known facts other last xs i x within is before one =
     subst (HoldOfAll (known_with facts other last))
-    (sym (ap terms_of (take_item xs i x within is) ∙ terms_of-append (take i xs) x))
-    (known_more facts other last (terms_of (take i xs)) (term_of x) before one)
+    (sym (ap bare_terms_of (take_member xs i x within is) ∙ terms_of-append (take i xs) x))
+    (known_more facts other last (bare_terms_of (take i xs)) (term_of x) before one)
 
 -- ---- A ground term holds no variable
 
@@ -144,14 +142,3 @@ mutual
   all_ground_lack number sort no_terms ground = refl
   all_ground_lack number sort (term_then t ts) ground =
       (λ i. ground_lacks number sort t ground.0 i || all_ground_lack number sort ts ground.1 i)
-
--- ---- Terms apart
-
-not_one : (a b top : ℕ) → (nat_eq a b || (nat_eq a top || nat_eq b top)) ≡ false → ¬ (a ≡ b) × ¬ (a ≡ top) × ¬ (b ≡ top)
-not_one a b top e = (λ same. grind arith, λ same. grind arith, λ same. grind arith)
-
-pub all_sizes_apart : (facts other : Facts) (ts us : Terms) → may_be_one facts other ≡ false → HoldOfAll facts ts → HoldOfAll other us
-    → ¬ (ts ≡ us)
-all_sizes_apart facts other ts us e one two same =
-    let apart = not_one facts.size other.size (2 ^ 64 - 1) e in
-    apart.0 (one.1 apart.1 ∙ ap all_nodes_of same ∙ sym (two.1 apart.2))

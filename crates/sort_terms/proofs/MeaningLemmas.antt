@@ -7,8 +7,8 @@ use Rattle.lotos_base.specs.Equation.{Variable as DeclaredVariable}
 use Rattle.lotos_base.specs.Term.{Term, Terms, no_terms, term_then}
 use Rattle.sort_terms.specs.Counting.{HasNone, IsOnly, HasTwo}
 use Rattle.sort_terms.specs.Reading.{Reads, AllRead}
-use Rattle.sort_terms.specs.Choices.{joined}
-use Rattle.sort_terms.specs.Tables.{Table, Tables, table, no_tables, table_then, choice_in, combined, with_argument, with_offer, gathered}
+use Rattle.sort_terms.specs.Choices.{joined_readings}
+use Rattle.sort_terms.specs.Tables.{Table, Tables, table, no_tables, table_then, choice_at_sort, combined, with_argument_read, with_offer, gathered}
 use Rattle.sort_terms.specs.Suiting.{source_of, Means, MeansSome, Suits, AllSuit}
 use Rattle.sort_terms.specs.declared.choices.Choice.{Choice}
 use Rattle.sort_terms.specs.declared.choices.Source.{Source}
@@ -58,7 +58,7 @@ answer_of P source false one = (one.0, one.1.is_answer)
 
 pub joined_means : (P Q : Term → Type 0) (known : Option Choice) (source : Source) (several : Bool)
     → ((t u : Term) → P t → Q u → ¬ (t ≡ u)) → Means P known → MeansSome Q source several
-    → Means (Either P Q) (joined known source several)
+    → Means (Either P Q) (joined_readings known source several)
 joined_means P Q None source several apart none some =
     some_also Q (Either P Q) (λ t q. inr q) (none_either P Q none) source several some
 joined_means P Q (Some c) source several apart some other =
@@ -85,7 +85,7 @@ offer_means P Q s known f (Some offer) apart some other = go (nat_eq s offer.0) 
     go : (b : Bool) → nat_eq s offer.0 ≡ b → Means (Either P Q) (with_offer s known f (Some offer))
     go true here =
         rw here (joined_means P Q known (Operation f) offer.1 apart some
-        (let there : with_offer s None f (Some offer) ≡ joined None (Operation f) offer.1 = rw here refl in
+        (let there : with_offer s None f (Some offer) ≡ joined_readings None (Operation f) offer.1 = rw here refl in
         subst (λ (c : Option Choice). Means Q c) there other))
     go false elsewhere =
         rw elsewhere (unjoined_means P Q known some
@@ -212,7 +212,7 @@ cons_some P Q R to from source false false one rest = (
         cc
 
 cons_means : (P : Term → Type 0) (Q R : Terms → Type 0) → ((ts : Terms) → R ts → BothAre P Q ts) → ((ts : Terms) → BothAre P Q ts → R ts)
-    → (c : Option Choice) (rest : Option Bool) → Means P c → MeansArguments Q rest → MeansArguments R (with_argument c rest)
+    → (c : Option Choice) (rest : Option Bool) → Means P c → MeansArguments Q rest → MeansArguments R (with_argument_read c rest)
 cons_means P Q R to from None rest none others = λ ts h. go ts (to ts h)
   where
     go : (ts : Terms) → BothAre P Q ts → ⊥
@@ -227,7 +227,7 @@ cons_means P Q R to from (Some c) (Some rest) some others = cons_some P Q R to f
 
 -- a table says what it says at each sort
 pub suits_means : (signature : Signature) (scope : List DeclaredVariable) (w : WrittenTerm) (t : Table) → Suits signature scope w t
-    → (s : ℕ) → Means (λ u. Reads signature scope w u s) (choice_in t s)
+    → (s : ℕ) → Means (λ u. Reads signature scope w u s) (choice_at_sort t s)
 suits_means signature scope (written head arguments) (table choices ts) suits = suits.0
 
 -- what is known of arguments at the sorts of a profile
@@ -254,7 +254,7 @@ arguments_mean signature scope (written_then w ws) (table_then t ts) suits [] = 
     go (term_then u us) h = h
 arguments_mean signature scope (written_then w ws) (table_then t ts) suits (s ∷ ss) =
     cons_means (λ u. Reads signature scope w u s) (λ us. AllRead signature scope ws us ss)
-    (λ us. AllRead signature scope (written_then w ws) us (s ∷ ss)) to from (choice_in t s) (combined ss ts)
+    (λ us. AllRead signature scope (written_then w ws) us (s ∷ ss)) to from (choice_at_sort t s) (combined ss ts)
     (suits_means signature scope w t suits.0 s) (arguments_mean signature scope ws ts suits.1 ss)
   where
     to : (us : Terms) → AllRead signature scope (written_then w ws) us (s ∷ ss)

@@ -12,7 +12,7 @@ use Rattle.lotos_base.specs.Term.{Term, Terms, variable, node}
 use Rattle.lotos_base.specs.Twins.{form_eq}
 use Rattle.sort_terms.specs.Asked.{allows}
 use Rattle.sort_terms.specs.Reading.{Reads, AllRead, IsOperationAt, IsVariableAt, IsBare, IsLastNamed, IsVisible, IsAsked}
-use Rattle.sort_terms.specs.Tables.{Tables, combined, with_offer, gathered, offered, offered_by, offered_if, only_variable}
+use Rattle.sort_terms.specs.Tables.{Tables, combined, with_offer, gathered, operation_offered, offered_by, offered_if, only_variable}
 use Rattle.sort_terms.specs.Suiting.{source_of, Means, MeansSome, AllSuit}
 use Rattle.sort_terms.specs.declared.asked.Asked.{Asked}
 use Rattle.sort_terms.specs.declared.choices.Source.TheVariants.{Variable, Operation as FromOperation}
@@ -136,7 +136,7 @@ offer_by signature scope head ws ts asked suits asks visible s f operation there
 pub offer_is : (signature : Signature) (scope : List DeclaredVariable) (head : WrittenHead) (ws : WrittenTerms) (ts : Tables)
     (asked : Asked) → AllSuit signature scope ws ts → AllowsAsked signature head asked → IsVisible scope head ws
     → (s f : ℕ) (operation : Operation) → IsOperation signature f operation → AreOneName operation.name head.name
-    → Means (ReadsBy signature scope head ws s f) (with_offer s None f (offered signature head.form asked ts f))
+    → Means (ReadsBy signature scope head ws s f) (with_offer s None f (operation_offered signature head.form asked ts f))
 offer_is signature scope head ws ts asked suits asks visible s f operation there named =
     subst (λ (o : Option Operation). Means (ReadsBy signature scope head ws s f) (with_offer s None f (offered_if head.form asked ts o)))
     (sym there) (offer_by signature scope head ws ts asked suits asks visible s f operation there named)
@@ -150,11 +150,11 @@ pub node_means : (signature : Signature) (scope : List DeclaredVariable) (head :
     → ((f : ℕ) (o : Operation) (t : Term) → IsOperation signature f o → AreOneName o.name head.name
     → source_of t ≡ FromOperation f → HeadIn numbers t)
     → (s : ℕ) → Means (λ t. Reads signature scope (written head ws) t s)
-    (gathered (offered signature head.form asked ts) s None numbers)
+    (gathered (operation_offered signature head.form asked ts) s None numbers)
 node_means signature scope head ws ts asked suits asks visible numbers apart sound complete s =
     means_also (λ t. R t × Either Nothing (HeadIn numbers) t) R (λ t h. h.0) (λ t h. (h, inr (headed t h)))
-    (gathered (offered signature head.form asked ts) s None numbers)
-    (gathered_means R Nothing s (offered signature head.form asked ts) None numbers apart (λ t none. absurd none)
+    (gathered (operation_offered signature head.form asked ts) s None numbers)
+    (gathered_means R Nothing s (operation_offered signature head.form asked ts) None numbers apart (λ t none. absurd none)
     (λ t h. h.1) (each numbers sound))
   where
     R : Term → Type 0
@@ -171,7 +171,7 @@ node_means signature scope head ws ts asked suits asks visible numbers apart sou
     headed (node f us) h = complete f h.0 (node f us) h.1.is_there h.1.named refl
 
     each : (fs : List ℕ) → ((i f : ℕ) → slice_get fs i ≡ Some f → (o : Operation) × IsOperation signature f o × AreOneName o.name head.name)
-        → EachMeans R s (offered signature head.form asked ts) fs
+        → EachMeans R s (operation_offered signature head.form asked ts) fs
     each [] all = tt
     each (f ∷ fs) all =
         let here = all 0 f refl in

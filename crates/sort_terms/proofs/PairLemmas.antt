@@ -19,17 +19,14 @@ use Rattle.sort_terms.specs.Counting.{HasNone, IsOnly, HasTwo}
 use Rattle.sort_terms.specs.ProfiledTerm.{ProfiledTerm, bare, head_sort, FitsProfiles, IsOf}
 use Rattle.sort_terms.specs.Reading.{Reads, IsScopeOver}
 use Rattle.sort_terms.specs.ReadingOutcome.{ReadingRefusal, no_reading, two_readings, unknown_in, PairReadingIs, answered, refused, SortedPair, IsPairReading}
-use Rattle.sort_terms.specs.RefusalView.{IsFirstRefusal, UnlessNoMemory}
 use Rattle.sort_terms.specs.SortedView.{profiled_in, term_in}
 use Rattle.sort_terms.specs.Suiting.{Suits}
-use Rattle.sort_terms.specs.Tables.{Table, choice_in, built_from}
+use Rattle.sort_terms.specs.Tables.{Table, choice_at_sort, built_from}
 use Rattle.sort_terms.specs.declared.choices.Choice.{Choice}
 use Rattle.sort_terms.specs.declared.choices.Found.TheVariants.{Nothing, One, Several}
-use Rattle.sort_terms.specs.declared.sort_faults.SortFault.{SortFault}
 use Rattle.sort_terms.specs.declared.sorted.Sorted.{Sorted}
 use Rattle.sort_terms.proofs.BuildingLemmas.{built_one}
-use Rattle.sort_terms.proofs.ReadingLemmas.{choice_says, several_says, some_reading, one_says, outcome_known, outcome_unknown, first_is, place_seen}
-use Rattle.sort_terms.proofs.UnknownLemmas.{first_here, first_later}
+use Rattle.sort_terms.proofs.ReadingLemmas.{choice_says, several_says, some_reading, one_says, outcome_known, place_seen}
 
 -- ---- What both have
 
@@ -66,7 +63,7 @@ pub record ArePairs (signature : Signature) (scope : List Variable) (l r : Writt
     (common : ℕ → Option Choice) : Type 0 where
   pub left : Suits signature scope l t
   pub right : Suits signature scope r u
-  pub common_is : (s : ℕ) → common s ≡ both (choice_in t s) (choice_in u s)
+  pub common_is : (s : ℕ) → common s ≡ both (choice_at_sort t s) (choice_at_sort u s)
 
 pub pairs_of : (signature : Signature) (scope : List Variable) (l r : WrittenTerm) (a b : Counted) (common : ℕ → Option Choice)
     → Suits signature scope l (table_of a) → Suits signature scope r (table_of b)
@@ -77,13 +74,13 @@ pairs_of signature scope l r a b common left right are = record {
   right = right;
   common_is = λ s.
       are s ∙ ap (λ (c : Option Choice). both c (choice_at (out-Counted b).choices s)) (sym (table_choices a s))
-      ∙ ap (λ (c : Option Choice). both (choice_in (table_of a) s) c) (sym (table_choices b s));
+      ∙ ap (λ (c : Option Choice). both (choice_at_sort (table_of a) s) c) (sym (table_choices b s));
 }
 
 pub nothing_common : (signature : Signature) (scope : List Variable) (l r : WrittenTerm) (t u : Table) (common : ℕ → Option Choice)
     → ArePairs signature scope l r t u common → IsFound common Nothing → HasNone (IsPairReading signature scope l r)
 nothing_common signature scope l r t u common pairs none = λ pair h.
-    elim (both_missing (choice_in t pair.sort) (choice_in u pair.sort) (sym (pairs.common_is pair.sort) ∙ none pair.sort)) [
+    elim (both_missing (choice_at_sort t pair.sort) (choice_at_sort u pair.sort) (sym (pairs.common_is pair.sort) ∙ none pair.sort)) [
       | inl missing ↦ choice_says signature scope l t pairs.left pair.sort None missing pair.left h.0
       | inr missing ↦ choice_says signature scope r u pairs.right pair.sort None missing pair.right h.1
     ]
@@ -111,7 +108,7 @@ two_rights signature scope l r s two v read = record {
 pub several_common : (signature : Signature) (scope : List Variable) (l r : WrittenTerm) (t u : Table) (common : ℕ → Option Choice)
     → ArePairs signature scope l r t u common → IsFound common Several → HasTwo (IsPairReading signature scope l r)
 several_common signature scope l r t u common pairs (inl at) =
-    let parts = are_both (choice_in t at.0) (choice_in u at.0) at.1 (sym (pairs.common_is at.0) ∙ at.2) in
+    let parts = are_both (choice_at_sort t at.0) (choice_at_sort u at.0) at.1 (sym (pairs.common_is at.0) ∙ at.2) in
     let left = some_reading signature scope l t pairs.left at.0 parts.left parts.left_is in
     let right = some_reading signature scope r u pairs.right at.0 parts.right parts.right_is in
     elim (or_cases parts.left.several parts.right.several (sym parts.several ∙ at.3)) [
@@ -123,8 +120,8 @@ several_common signature scope l r t u common pairs (inl at) =
           (several_says signature scope r u pairs.right at.0 parts.right parts.right_is several) left.0 left.1
     ]
 several_common signature scope l r t u common pairs (inr at) =
-    let first = are_both (choice_in t at.0) (choice_in u at.0) at.2 (sym (pairs.common_is at.0) ∙ at.4) in
-    let second = are_both (choice_in t at.1) (choice_in u at.1) at.3 (sym (pairs.common_is at.1) ∙ at.5) in
+    let first = are_both (choice_at_sort t at.0) (choice_at_sort u at.0) at.2 (sym (pairs.common_is at.0) ∙ at.4) in
+    let second = are_both (choice_at_sort t at.1) (choice_at_sort u at.1) at.3 (sym (pairs.common_is at.1) ∙ at.5) in
     let one_left = some_reading signature scope l t pairs.left at.0 first.left first.left_is in
     let one_right = some_reading signature scope r u pairs.right at.0 first.right first.right_is in
     let other_left = some_reading signature scope l t pairs.left at.1 second.left second.left_is in
@@ -148,7 +145,7 @@ pub record IsOnePair (signature : Signature) (scope : List Variable) (l r : Writ
 pub one_common : (signature : Signature) (scope : List Variable) (l r : WrittenTerm) (t u : Table) (common : ℕ → Option Choice) (s : ℕ)
     → ArePairs signature scope l r t u common → IsFound common (One s) → IsOnePair signature scope l r s
 one_common signature scope l r t u common s pairs at =
-    let parts = are_both (choice_in t s) (choice_in u s) at.0.0 (sym (pairs.common_is s) ∙ at.0.1) in
+    let parts = are_both (choice_at_sort t s) (choice_at_sort u s) at.0.0 (sym (pairs.common_is s) ∙ at.0.1) in
     let single = or_parts parts.left.several parts.right.several (sym parts.several ∙ at.0.2) in
     let left = one_says signature scope l t pairs.left s parts.left parts.left_is single.0 in
     let right = one_says signature scope r u pairs.right s parts.right parts.right_is single.1 in
@@ -163,7 +160,7 @@ one_common signature scope l r t u common s pairs at =
     same_sort : (p : SortedPair) → IsPairReading signature scope l r p → (b : Bool) → nat_eq p.sort s ≡ b → p.sort ≡ s
     same_sort p h true same = eqb-true p.sort s same
     same_sort p h false differ =
-        absurd (elim (both_missing (choice_in t p.sort) (choice_in u p.sort)
+        absurd (elim (both_missing (choice_at_sort t p.sort) (choice_at_sort u p.sort)
         (sym (pairs.common_is p.sort) ∙ at.1 p.sort (λ same. let both : true ≡ false = sym (eq-eqb p.sort s same) ∙ differ in cc))) [
           | inl missing ↦ choice_says signature scope l t pairs.left p.sort None missing p.left h.0
           | inr missing ↦ choice_says signature scope r u pairs.right p.sort None missing p.right h.1
@@ -257,20 +254,3 @@ one_pair signature scope over l r t u common s left_known right_known pairs foun
           (ap (λ (x : Term). pair_of x one.right s) first.term_is ∙ ap (λ (x : Term). pair_of (term_in left) x s) second.term_is
           ∙ ap (λ (q : ℕ). pair_of (term_in left) (term_in right) q) first.sort_is) one.only),
     )
-
-pub left_refused : (signature : Signature) (scope : List Variable) (l r : Written) (fault : SortFault)
-    → IsFirstRefusal (unknown_in signature scope (written_term_of l)) (Some fault)
-    → UnlessNoMemory fault (λ x. PairReadingIs signature scope (written_term_of l) (written_term_of r) (refused x))
-left_refused signature scope l r fault first =
-    let whole = first_here (unknown_in signature scope (written_term_of l)) (unknown_in signature scope (written_term_of r)) fault first in
-    first_is fault (λ x. PairReadingIs signature scope (written_term_of l) (written_term_of r) (refused x)) whole.0 whole.2
-    (outcome_unknown _ _ _ whole.0 whole.1 whole.3)
-
-pub right_refused : (signature : Signature) (scope : List Variable) (l r : Written) (fault : SortFault)
-    → unknown_in signature scope (written_term_of l) ≡ [] → IsFirstRefusal (unknown_in signature scope (written_term_of r)) (Some fault)
-    → UnlessNoMemory fault (λ x. PairReadingIs signature scope (written_term_of l) (written_term_of r) (refused x))
-right_refused signature scope l r fault none first =
-    let whole = first_later (unknown_in signature scope (written_term_of l)) (unknown_in signature scope (written_term_of r))
-    (Some fault) none first in
-    first_is fault (λ x. PairReadingIs signature scope (written_term_of l) (written_term_of r) (refused x)) whole.0 whole.2
-    (outcome_unknown _ _ _ whole.0 whole.1 whole.3)

@@ -1,5 +1,5 @@
 -- What was found over the tables is what the readings are.
-use Rattle.std.proofs.Common.{◌≡◌, ℕ, Bool, true, false, inl, inr, List, [], ◌∷◌, refl, ap, sym, ◌∙◌, subst}
+use Rattle.std.proofs.Common.{◌≡◌, ℕ, Bool, true, false, inl, inr, List, [], refl, ap, sym, ◌∙◌, subst}
 use Rattle.std.specs.Prelude.{Option, Some, None, nat_eq}
 use Rattle.std.proofs.lemmas.Bool.{eqb-true, eq-eqb}
 use Rattle.std.proofs.lemmas.Option.{same_Some}
@@ -14,16 +14,13 @@ use Rattle.sort_terms.specs.Counting.{HasNone, IsOnly, HasTwo}
 use Rattle.sort_terms.specs.FoundAt.{IsFoundAt}
 use Rattle.sort_terms.specs.ProfiledTerm.{ProfiledTerm, bare, head_sort, FitsProfiles, IsOf}
 use Rattle.sort_terms.specs.Reading.{Reads, IsScopeOver}
-use Rattle.sort_terms.specs.RefusalView.{IsFirstRefusal, UnlessNoMemory, refusal_of}
 use Rattle.sort_terms.specs.SortedView.{profiled_in, term_in}
 use Rattle.sort_terms.specs.declared.sorted.Sorted.{Sorted}
-use Rattle.sort_terms.specs.declared.sort_faults.SortFault.{SortFault}
-use Rattle.sort_terms.specs.declared.sort_faults.SortFault.TheVariants.{UnknownName, UnknownSort, NoReading, TwoReadings, NoMemory}
 use Rattle.sort_terms.proofs.BuildingLemmas.{built_one}
 use Rattle.sort_terms.proofs.CountedLemmas.{written_opened}
 use Rattle.sort_terms.specs.ReadingOutcome.{ReadingRefusal, no_reading, two_readings, unknown_in, ReadingIs, ReadingOutcome, answered, refused, ComesTo, SortedTerm, IsReading, IsExpected}
 use Rattle.sort_terms.specs.Suiting.{Means, MeansSome, Suits}
-use Rattle.sort_terms.specs.Tables.{Table, choice_in, built_from}
+use Rattle.sort_terms.specs.Tables.{Table, choice_at_sort, built_from}
 use Rattle.sort_terms.specs.declared.choices.Choice.{Choice}
 use Rattle.sort_terms.specs.declared.choices.Found.TheVariants.{Nothing, One, Several}
 use Rattle.sort_terms.proofs.MeaningLemmas.{suits_means, answer_of}
@@ -31,15 +28,15 @@ use Rattle.sort_terms.proofs.MeaningLemmas.{suits_means, answer_of}
 -- what a choice says
 pub choice_says : (signature : Signature) (scope : List Variable) (w : WrittenTerm) (t : Table) → Suits signature scope w t → (s : ℕ)
     (o : Option Choice)
-    → choice_in t s ≡ o → Means (λ u. Reads signature scope w u s) o
+    → choice_at_sort t s ≡ o → Means (λ u. Reads signature scope w u s) o
 choice_says signature scope w t suits s o is =
     subst (λ (c : Option Choice). Means (λ u. Reads signature scope w u s) c) is (suits_means signature scope w t suits s)
 
 pub nothing_found : (signature : Signature) (scope : List Variable) (w : WrittenTerm) (t : Table) → Suits signature scope w t
-    → (expected : Option ℕ) → IsFoundAt (choice_in t) expected Nothing → HasNone (IsReading signature scope w expected)
+    → (expected : Option ℕ) → IsFoundAt (choice_at_sort t) expected Nothing → HasNone (IsReading signature scope w expected)
 nothing_found signature scope w t suits None none = λ r h. choice_says signature scope w t suits r.sort None (none r.sort) r.term h.0
 nothing_found signature scope w t suits (Some s) none = λ r h.
-    choice_says signature scope w t suits r.sort None (ap (choice_in t) h.1 ∙ none) r.term h.0
+    choice_says signature scope w t suits r.sort None (ap (choice_at_sort t) h.1 ∙ none) r.term h.0
 
 -- the term as a term of the sort
 abbrev pub of_sort : Term → ℕ → SortedTerm
@@ -57,19 +54,19 @@ two_of_sort signature scope w expected s fits two = record {
 
 pub several_says : (signature : Signature) (scope : List Variable) (w : WrittenTerm) (t : Table) → Suits signature scope w t → (s : ℕ)
     (c : Choice)
-    → choice_in t s ≡ Some c → c.several ≡ true → HasTwo (λ u. Reads signature scope w u s)
+    → choice_at_sort t s ≡ Some c → c.several ≡ true → HasTwo (λ u. Reads signature scope w u s)
 several_says signature scope w t suits s c is several =
     subst (λ (b : Bool). MeansSome (λ u. Reads signature scope w u s) c.source b) several
     (choice_says signature scope w t suits s (Some c) is)
 
 pub some_reading : (signature : Signature) (scope : List Variable) (w : WrittenTerm) (t : Table) → Suits signature scope w t → (s : ℕ)
     (c : Choice)
-    → choice_in t s ≡ Some c → (u : Term) × Reads signature scope w u s
+    → choice_at_sort t s ≡ Some c → (u : Term) × Reads signature scope w u s
 some_reading signature scope w t suits s c is =
     answer_of (λ u. Reads signature scope w u s) c.source c.several (choice_says signature scope w t suits s (Some c) is)
 
 pub several_found : (signature : Signature) (scope : List Variable) (w : WrittenTerm) (t : Table) → Suits signature scope w t
-    → (expected : Option ℕ) → IsFoundAt (choice_in t) expected Several → HasTwo (IsReading signature scope w expected)
+    → (expected : Option ℕ) → IsFoundAt (choice_at_sort t) expected Several → HasTwo (IsReading signature scope w expected)
 several_found signature scope w t suits None (inl at) =
     two_of_sort signature scope w None at.0 tt (several_says signature scope w t suits at.0 at.1 at.2 at.3)
 several_found signature scope w t suits None (inr at) =
@@ -93,7 +90,7 @@ pub record IsOne (signature : Signature) (scope : List Variable) (w : WrittenTer
 
 pub one_says : (signature : Signature) (scope : List Variable) (w : WrittenTerm) (t : Table) → Suits signature scope w t → (s : ℕ)
     (c : Choice)
-    → choice_in t s ≡ Some c → c.several ≡ false → (u : Term) × IsOnly (λ x. Reads signature scope w x s) u
+    → choice_at_sort t s ≡ Some c → c.several ≡ false → (u : Term) × IsOnly (λ x. Reads signature scope w x s) u
 one_says signature scope w t suits s c is single =
     let one = subst (λ (b : Bool). MeansSome (λ u. Reads signature scope w u s) c.source b) single
     (choice_says signature scope w t suits s (Some c) is) in
@@ -115,7 +112,7 @@ of_one_sort signature scope w expected s u only fits sorts = record {
 }
 
 sort_of_one : (signature : Signature) (scope : List Variable) (w : WrittenTerm) (t : Table) → Suits signature scope w t → (s : ℕ)
-    → ((r : ℕ) → ¬ (r ≡ s) → choice_in t r ≡ None) → (r : SortedTerm) → Reads signature scope w r.term r.sort → r.sort ≡ s
+    → ((r : ℕ) → ¬ (r ≡ s) → choice_at_sort t r ≡ None) → (r : SortedTerm) → Reads signature scope w r.term r.sort → r.sort ≡ s
 sort_of_one signature scope w t suits s others r h = go (nat_eq r.sort s) refl
   where
     differs : nat_eq r.sort s ≡ false → ¬ (r.sort ≡ s)
@@ -126,12 +123,12 @@ sort_of_one signature scope w t suits s others r h = go (nat_eq r.sort s) refl
     go false differ = absurd (choice_says signature scope w t suits r.sort None (others r.sort (differs differ)) r.term h)
 
 pub one_found : (signature : Signature) (scope : List Variable) (w : WrittenTerm) (t : Table) → Suits signature scope w t
-    → (expected : Option ℕ) (s : ℕ) → IsFoundAt (choice_in t) expected (One s) → IsOne signature scope w expected s
+    → (expected : Option ℕ) (s : ℕ) → IsFoundAt (choice_at_sort t) expected (One s) → IsOne signature scope w expected s
 one_found signature scope w t suits None s at =
     let one = one_says signature scope w t suits s at.0.0 at.0.1 at.0.2 in
     of_one_sort signature scope w None s one.0 one.1 tt (λ r h. sort_of_one signature scope w t suits s at.1 r h.0)
 one_found signature scope w t suits (Some e) s at =
-    let one = one_says signature scope w t suits s at.1 (ap (choice_in t) at.0 ∙ at.2) at.3 in
+    let one = one_says signature scope w t suits s at.1 (ap (choice_at_sort t) at.0 ∙ at.2) at.3 in
     of_one_sort signature scope w (Some e) s one.0 one.1 at.0 (λ r h. h.1 ∙ sym at.0)
 
 -- the outcome where no name is unknown
@@ -141,29 +138,14 @@ pub outcome_known : {A : Type 0} (unknown : List ReadingRefusal) (place : Place)
 outcome_known unknown place P outcome none comes =
     subst (λ (rs : List ReadingRefusal). ComesTo rs place P outcome) (sym none) comes
 
--- the outcome where a name is unknown
-pub outcome_unknown : {A : Type 0} (unknown : List ReadingRefusal) (place : Place) (P : A → Type 0) (first : ReadingRefusal)
-    (rest : List ReadingRefusal)
-    → unknown ≡ first ∷ rest → ComesTo unknown place P (refused first)
-outcome_unknown unknown place P first rest is =
-    subst (λ (rs : List ReadingRefusal). ComesTo rs place P (refused first)) (sym is) refl
-
 -- ---- Over the code's terms
-
-pub first_is : (fault : SortFault) (P : ReadingRefusal → Type 0) (r : ReadingRefusal) → refusal_of fault ≡ Some r → P r
-    → UnlessNoMemory fault P
-first_is (UnknownName place) P r is h = subst (λ (x : ReadingRefusal). P x) (sym (same_Some _ _ is)) h
-first_is (UnknownSort place) P r is h = subst (λ (x : ReadingRefusal). P x) (sym (same_Some _ _ is)) h
-first_is (NoReading place) P r is h = subst (λ (x : ReadingRefusal). P x) (sym (same_Some _ _ is)) h
-first_is (TwoReadings place) P r is h = subst (λ (x : ReadingRefusal). P x) (sym (same_Some _ _ is)) h
-first_is NoMemory P r is h = tt
 
 pub place_seen : (w : Written) → (written_head (written_term_of w)).place ≡ (head_of w).place
 place_seen w = ap (λ (x : WrittenTerm). (written_head x).place) (written_opened w)
 
 pub none_read : (signature : Signature) (scope : List Variable) (w : Written) (t : Table) (expected : Option ℕ)
     → unknown_in signature scope (written_term_of w) ≡ [] → Suits signature scope (written_term_of w) t
-    → IsFoundAt (choice_in t) expected Nothing
+    → IsFoundAt (choice_at_sort t) expected Nothing
     → ReadingIs signature scope (written_term_of w) expected (refused (no_reading (head_of w).place))
 none_read signature scope w t expected known suits found =
     outcome_known _ _ _ _ known
@@ -171,7 +153,7 @@ none_read signature scope w t expected known suits found =
 
 pub two_read : (signature : Signature) (scope : List Variable) (w : Written) (t : Table) (expected : Option ℕ)
     → unknown_in signature scope (written_term_of w) ≡ [] → Suits signature scope (written_term_of w) t
-    → IsFoundAt (choice_in t) expected Several
+    → IsFoundAt (choice_at_sort t) expected Several
     → ReadingIs signature scope (written_term_of w) expected (refused (two_readings (head_of w).place))
 two_read signature scope w t expected known suits found =
     outcome_known _ _ _ _ known
@@ -184,7 +166,7 @@ two_read signature scope w t expected known suits found =
 -- what is built where one reading was found
 pub one_built : (signature : Signature) (scope : List Variable) → IsScopeOver signature scope → (w : Written) (t : Table)
     (expected : Option ℕ) (s : ℕ)
-    → Suits signature scope (written_term_of w) t → IsFoundAt (choice_in t) expected (One s)
+    → Suits signature scope (written_term_of w) t → IsFoundAt (choice_at_sort t) expected (One s)
     → (p : ProfiledTerm) × (built_from signature t s ≡ Some p) × FitsProfiles p
 one_built signature scope over w t expected s suits found =
     let one = one_found signature scope (written_term_of w) t suits expected s found in
@@ -194,7 +176,7 @@ one_built signature scope over w t expected s suits found =
 pub one_read : (signature : Signature) (scope : List Variable) → IsScopeOver signature scope → (w : Written) (t : Table)
     (expected : Option ℕ) (s : ℕ)
     → unknown_in signature scope (written_term_of w) ≡ [] → Suits signature scope (written_term_of w) t
-    → IsFoundAt (choice_in t) expected (One s) → (term : Sorted) → built_from signature t s ≡ Some (profiled_in term)
+    → IsFoundAt (choice_at_sort t) expected (One s) → (term : Sorted) → built_from signature t s ≡ Some (profiled_in term)
     → IsOf signature (profiled_in term)
     × ReadingIs signature scope (written_term_of w) expected (answered (of_sort (term_in term) term.sort))
 one_read signature scope over w t expected s known suits found term is =
@@ -208,11 +190,3 @@ one_read signature scope over w t expected s known suits found term is =
           (subst (λ (r : SortedTerm). IsOnly (IsReading signature scope (written_term_of w) expected) r)
           (ap (λ (u : Term). of_sort u s) bare_is ∙ ap (λ (q : ℕ). of_sort (term_in term) q) sort_is) one.only),
     )
-
--- a fault that is the first unknown name
-pub first_refused : (signature : Signature) (scope : List Variable) (w : Written) (expected : Option ℕ) (fault : SortFault)
-    → IsFirstRefusal (unknown_in signature scope (written_term_of w)) (Some fault)
-    → UnlessNoMemory fault (λ r. ReadingIs signature scope (written_term_of w) expected (refused r))
-first_refused signature scope w expected fault first =
-    first_is fault (λ r. ReadingIs signature scope (written_term_of w) expected (refused r)) first.0 first.2
-    (outcome_unknown (unknown_in signature scope (written_term_of w)) _ _ first.0 first.1 first.3)

@@ -1,7 +1,7 @@
 -- How many variables and operations lists of terms have.
-use Rattle.std.proofs.Common.{Global, Bool, true, false, nat_eq, ◌≡◌, ℕ, zero, suc, ◌+◌, ◌*◌, ◌<◌, ◌≤◌, List, [], ◌∷◌, ◌++◌, length, get_or, slice_set, refl, ap, sym, ◌∙◌, arith}
+use Rattle.std.proofs.Common.{Global, Bool, true, nat_eq, ◌≡◌, ℕ, zero, suc, ◌+◌, ◌*◌, ◌<◌, ◌≤◌, List, [], ◌∷◌, ◌++◌, length, get_or, slice_set, refl, ap, sym, ◌∙◌, arith}
 use Rattle.std.specs.declared.rc.Rc.{Rc}
-use Rattle.sort_terms.specs.ProfiledTerm.{ProfiledTerms, profiled_term_then}
+use Rattle.sort_terms.specs.ProfiledTerm.{ProfiledTerms, profiled_term_then, ProfiledTerm, profiled_variable, profiled_node}
 use Rattle.sort_terms.specs.TermView.{profiled_of, all_profiled}
 use Rattle.sort_terms.specs.TermSize.{profiled_size, profiled_sizes, size_of, sizes_of}
 use Rattle.sort_terms.specs.declared.operations.Op.{Op}
@@ -9,7 +9,7 @@ use Rattle.sort_terms.specs.declared.terms.Term.{Term}
 use Rattle.sort_terms.specs.declared.terms.Term.TheVariants.{Node, Var, the_data}
 use Rattle.sort_terms.specs.declared.terms.Arguments.TheDeep.{deep-Term, size-Term}
 use denote.Param.Weighed.{most, w_this}
-use Rattle.sort_terms.proofs.BuiltLists.{profiled_Node, profiled_Var}
+use Rattle.sort_terms.proofs.BuiltLists.{profiled_Node}
 
 sizes_append : (ts : List Term) (last : Term) → sizes_of (ts ++ last ∷ []) ≡ sizes_of ts + size_of last
 sizes_append [] last = omega arith
@@ -25,10 +25,6 @@ pub size_node : (t : Term) (op : ℕ) (profile : Rc Op Global) (arguments : Prof
 size_node t op profile arguments is =
     let one : suc (profiled_sizes arguments) ≡ 1 + profiled_sizes arguments = omega arith in
     ap size_of is ∙ ap profiled_size (profiled_Node op profile arguments) ∙ one
-
--- a variable
-pub size_variable : (t : Term) (n s : ℕ) → t ≡ Var n s → size_of t ≡ 1
-size_variable t n s is = ap size_of is ∙ ap profiled_size (profiled_Var n s)
 
 -- a first argument that is exchanged for an operation on other terms
 pub sizes_exchanged : (ts : List Term) (op : ℕ) (profile : Rc Op Global) (others : ProfiledTerms) (next now other : Term)
@@ -46,11 +42,6 @@ pub no_members : {X : Type 0} (xs : List X) (number : ℕ) (result : Bool) → n
 no_members [] number result n r e = refl
 no_members (x ∷ xs) number result n r e =
     let computed : nat_eq (length (x ∷ xs)) 0 ≡ true = ap (λ k. nat_eq k 0) (sym n) ∙ sym r ∙ e in grind arith
-
-pub some_members : {X : Type 0} (xs : List X) (number : ℕ) (result : Bool) → number ≡ length xs → result ≡ nat_eq number 0
-    → result ≡ false → ¬ (0 ≡ length xs)
-some_members xs number result n r e = λ none.
-    let computed : nat_eq 0 0 ≡ false = ap (λ k. nat_eq k 0) (none ∙ sym n) ∙ sym r ∙ e in grind arith
 
 -- two lists that stand for the same arguments
 pub as_many : (xs ys : List Term) → all_profiled xs ≡ all_profiled ys → length xs ≡ length ys
@@ -84,3 +75,11 @@ weighed t = refl
 pub dropped_below : (ts : List Term) → most ((w_this).weight the_data size-Term) ts ≤ 2 * sizes_of ts + 1
 dropped_below [] = omega arith
 dropped_below (t ∷ ts) = omega (arith, dropped_below ts, weighed t, one_below t)
+
+-- a term has a variable or an operation
+pub some_profiled_size : (t : ProfiledTerm) → 0 < profiled_size t
+some_profiled_size (profiled_variable n s) = omega arith
+some_profiled_size (profiled_node f o ts) = omega arith
+
+pub size_some : (t : Term) → 0 < size_of t
+size_some t = some_profiled_size (profiled_of t)

@@ -1,5 +1,5 @@
 -- The first unknown name, part by part.
-use Rattle.std.proofs.Common.{◌≡◌, ℕ, zero, suc, ◌+◌, ◌-◌, ◌<◌, ◌≤◌, Bool, true, false, ◌&&◌, List, [], ◌∷◌, ◌++◌, inl, inr, map, take, drop, length, get_or, refl, ap, sym, ◌∙◌, subst, arith}
+use Rattle.std.proofs.Common.{◌≡◌, ℕ, suc, ◌+◌, ◌-◌, ◌<◌, ◌≤◌, Bool, true, false, ◌&&◌, List, [], ◌∷◌, ◌++◌, inl, inr, map, take, drop, length, get_or, refl, ap, sym, ◌∙◌, subst, arith}
 use Rattle.std.specs.Prelude.{Option, Some, None, slice_get}
 use Rattle.std.specs.List.{list_any}
 use Rattle.std.proofs.Math.Seq.{drop-cons, take-length}
@@ -25,7 +25,7 @@ use Rattle.lotos_base.specs.Twins.{form_eq}
 use Rattle.sort_terms.specs.Positions.{positions_of}
 use Rattle.sort_terms.specs.Reading.{IsLastNamed, NoneNamed, IsSortNamed}
 use Rattle.sort_terms.proofs.AskedLemmas.{IsSortFound}
-use Rattle.sort_terms.specs.ReadingOutcome.{ReadingRefusal, unknown_name, unknown_sort, is_known, is_sort_name, together, in_text_order, unknown_in, unknown_in_each, unknown_at, unknown_sorts, one_name, is_operation_name, is_variable_name}
+use Rattle.sort_terms.specs.ReadingOutcome.{ReadingRefusal, unknown_name, unknown_sort, is_known, is_sort_name, refusals_together, in_text_order, unknown_in, unknown_in_each, unknown_at, unknown_sorts, one_name, is_operation_name, is_variable_name}
 use Rattle.sort_terms.specs.RefusalView.{IsFirstRefusal}
 use Rattle.sort_terms.specs.Searching.{between, early_count, form_is, any_of_form}
 use Rattle.sort_terms.specs.declared.sort_faults.SortFault.{SortFault}
@@ -40,10 +40,6 @@ first_here xs ys fault first = (first.0, first.1 ++ ys, first.2, ap (λ (zs : Li
 pub first_later : (xs ys : List ReadingRefusal) (o : Option SortFault) → xs ≡ [] → IsFirstRefusal ys o → IsFirstRefusal (xs ++ ys) o
 first_later xs ys o none first = subst (λ (zs : List ReadingRefusal). IsFirstRefusal (zs ++ ys) o) (sym none) first
 
-append_none : (xs : List ReadingRefusal) → xs ++ [] ≡ xs
-append_none [] = refl
-append_none (x ∷ xs) = ap (λ (ys : List ReadingRefusal). x ∷ ys) (append_none xs)
-
 -- ---- Stretches
 
 pub between_cons : {A : Type 0} (from to : ℕ) (xs : List A) (d : A) → from < to → to ≤ length xs
@@ -55,37 +51,29 @@ between_cons from to xs d before within =
     ap (λ (n : ℕ). take n (drop from xs)) one_more ∙ ap (take (suc (to - suc from))) (drop-cons xs from d inside)
     ∙ ap (λ (n : ℕ). get_or xs from d ∷ between n to xs) next
 
-pub between_none : {A : Type 0} (from to : ℕ) (xs : List A) → to ≤ from → between from to xs ≡ []
-between_none from to xs past =
-    let nothing : to - from ≡ 0 = omega arith in
-    ap (λ (n : ℕ). take n (drop from xs)) nothing
-
 -- the member at the place has the first unknown name
 pub found_among : {A : Type 0} (f : A → List ReadingRefusal) (from i to : ℕ) (xs : List A) (x : A) (fault : SortFault) → i < to
     → to ≤ length xs
-    → x ≡ get_or xs i x → together (map f (between from to xs)) ≡ together (map f (between i to xs)) → IsFirstRefusal (f x) (Some fault)
-    → IsFirstRefusal (together (map f (between from to xs))) (Some fault)
+    → x ≡ get_or xs i x → refusals_together (map f (between from to xs)) ≡ refusals_together (map f (between i to xs))
+    → IsFirstRefusal (f x) (Some fault)
+    → IsFirstRefusal (refusals_together (map f (between from to xs))) (Some fault)
 found_among f from i to xs x fault before within is so_far first =
     let here : between i to xs ≡ x ∷ between (i + 1) to xs =
     between_cons i to xs x before within ∙ ap (λ y. y ∷ between (i + 1) to xs) (sym is) in
-    subst (λ (rs : List ReadingRefusal). IsFirstRefusal rs (Some fault)) (sym (so_far ∙ ap (λ ys. together (map f ys)) here))
-    (first_here (f x) (together (map f (between (i + 1) to xs))) fault first)
+    subst (λ (rs : List ReadingRefusal). IsFirstRefusal rs (Some fault)) (sym (so_far ∙ ap (λ ys. refusals_together (map f ys)) here))
+    (first_here (f x) (refusals_together (map f (between (i + 1) to xs))) fault first)
 
 -- the member at the place has no unknown name
 pub none_among : {A : Type 0} (f : A → List ReadingRefusal) (from i to : ℕ) (xs : List A) (x : A) → i < to → to ≤ length xs
-    → x ≡ get_or xs i x → together (map f (between from to xs)) ≡ together (map f (between i to xs)) → f x ≡ []
-    → together (map f (between from to xs)) ≡ together (map f (between (i + 1) to xs))
+    → x ≡ get_or xs i x → refusals_together (map f (between from to xs)) ≡ refusals_together (map f (between i to xs)) → f x ≡ []
+    → refusals_together (map f (between from to xs)) ≡ refusals_together (map f (between (i + 1) to xs))
 none_among f from i to xs x before within is so_far none =
     let here : between i to xs ≡ x ∷ between (i + 1) to xs =
     between_cons i to xs x before within ∙ ap (λ y. y ∷ between (i + 1) to xs) (sym is) in
-    so_far ∙ ap (λ ys. together (map f ys)) here ∙ ap (λ (rs : List ReadingRefusal). rs ++ together (map f (between (i + 1) to xs))) none
+    so_far ∙ ap (λ ys. refusals_together (map f ys)) here
+    ∙ ap (λ (rs : List ReadingRefusal). rs ++ refusals_together (map f (between (i + 1) to xs))) none
 
 -- ---- A node
-
-pub early_within : (form : Form) (n : ℕ) → early_count form n ≤ n
-early_within prefix_form n = omega arith
-early_within infix_form zero = omega arith
-early_within infix_form (suc n) = omega arith
 
 whole : {A : Type 0} (xs : List A) → between 0 (length xs) xs ≡ xs
 whole xs =
@@ -94,13 +82,13 @@ whole xs =
 
 pub ordered : {A : Type 0} (f : A → List ReadingRefusal) (form : Form) (here : List ReadingRefusal) (xs : List A)
     → in_text_order form here (map f xs)
-    ≡ together (map f (between 0 (early_count form (length xs)) xs)) ++ here ++ together
+    ≡ refusals_together (map f (between 0 (early_count form (length xs)) xs)) ++ here ++ refusals_together
     (map f (between (early_count form (length xs)) (length xs) xs))
-ordered f prefix_form here xs = ap (λ ys. [] ++ here ++ together (map f ys)) (sym (whole xs))
+ordered f prefix_form here xs = ap (λ ys. [] ++ here ++ refusals_together (map f ys)) (sym (whole xs))
 ordered f infix_form here [] = refl
 ordered f infix_form here (x ∷ xs) =
     let rest : suc (length xs) - 1 ≡ length xs = omega arith in
-    ap (λ ys. (f x ++ []) ++ here ++ together (map f ys)) (sym (ap (λ (n : ℕ). take n xs) rest ∙ take-length xs))
+    ap (λ ys. (f x ++ []) ++ here ++ refusals_together (map f ys)) (sym (ap (λ (n : ℕ). take n xs) rest ∙ take-length xs))
 
 each_unknown : (signature : Signature) (scope : List Variable) (ws : List Written)
     → unknown_in_each signature scope (written_terms (written_terms_of ws)) ≡ map (λ w. unknown_in signature scope (written_term_of w)) ws
@@ -111,10 +99,10 @@ each_unknown signature scope (w ∷ ws) =
 -- the names of the code's term, in text order
 pub unknown_parts : (signature : Signature) (scope : List Variable) (w : Written)
     → unknown_in signature scope (written_term_of w)
-    ≡ (together (map (λ v. unknown_in signature scope (written_term_of v))
+    ≡ (refusals_together (map (λ v. unknown_in signature scope (written_term_of v))
     (between 0 (early_count (head_of w).form (length (out-Written w).args.items)) (out-Written w).args.items))
     ++ unknown_at signature scope (head_of w)
-    ++ together (map (λ v. unknown_in signature scope (written_term_of v))
+    ++ refusals_together (map (λ v. unknown_in signature scope (written_term_of v))
     (between (early_count (head_of w).form (length (out-Written w).args.items)) (length (out-Written w).args.items)
     (out-Written w).args.items)))
     ++ unknown_sorts signature (head_of w).sorts
@@ -259,7 +247,7 @@ sort_missed signature items i x found whole within is none named so_far =
 -- the unknown names of a stretch of arguments
 abbrev pub UnknownBetween : Signature → List Variable → Written → ℕ → ℕ → List ReadingRefusal
 UnknownBetween signature scope w from to =
-    together (map (λ v. unknown_in signature scope (written_term_of v)) (between from to (out-Written w).args.items))
+    refusals_together (map (λ v. unknown_in signature scope (written_term_of v)) (between from to (out-Written w).args.items))
 
 parts : (signature : Signature) (scope : List Variable) (w : Written) (early many : ℕ) → many ≡ length (out-Written w).args.items
     → early ≡ early_count (head_of w).form many

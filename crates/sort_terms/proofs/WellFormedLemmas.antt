@@ -7,7 +7,7 @@ use Rattle.std.proofs.lemmas.Bool.{eqb-true, eq-eqb, ltb-true, lt-ltb, and_parts
 use Rattle.std.proofs.lemmas.Option.{none-some, same_Some}
 use Rattle.std.proofs.lemmas.Map.Keys.{any_passes_from_place}
 use Rattle.std.proofs.lemmas.List.Folds.{list_any-append}
-use Rattle.lotos_base.proofs.Truth.{not_both}
+use Rattle.lotos_base.proofs.Truth.{not_both, true_unless}
 use Rattle.lotos_base.proofs.Tests.{list_all-at, list_all-from_each, list_any-at}
 use Rattle.lotos_base.proofs.Numbers.{suc-injective}
 use Rattle.lotos_base.proofs.Bytes.{same_bytes, bytes_same}
@@ -18,12 +18,8 @@ use Rattle.sort_terms.specs.Operations.{signature_listing}
 use Rattle.sort_terms.specs.declared.operations.Sort.{Sort as CodeSort}
 use Rattle.sort_terms.specs.declared.operations.Op.{Op}
 use Rattle.sort_terms.specs.ReadingOutcome.{one_name}
-use Rattle.sort_terms.specs.WellFormedTest.{all_below, has_known_sorts, are_one_sort, are_one_operation, all_differ, is_well_formed}
+use Rattle.sort_terms.specs.WellFormedTest.{all_below, has_known_sorts, are_one_sort, are_one_operation, all_differ, is_well_formed_signature}
 use Rattle.sort_terms.proofs.NodeLemmas.{forms_eq, eq_forms}
-
-true_unless : (b : Bool) → (b ≡ true → ⊥) → not b ≡ true
-true_unless true never = absurd (never refl)
-true_unless false never = refl
 
 -- ---- Members that differ
 
@@ -90,7 +86,7 @@ operations_mutual x y h =
     let parts = in_parts x y h in
     of_parts y x (sym parts.0, sym parts.1, sym parts.2, sym parts.3)
 
-pub well_formed_test : (signature : Signature) → is_well_formed signature ≡ true → IsWellFormedSignature signature
+pub well_formed_test : (signature : Signature) → is_well_formed_signature signature ≡ true → IsWellFormedSignature signature
 well_formed_test signature h =
     let known = and_parts (list_all (has_known_sorts (length signature.sorts)) signature.operations)
     (all_differ are_one_sort signature.sorts && all_differ are_one_operation signature.operations) h in
@@ -113,7 +109,7 @@ well_formed_test signature h =
           (of_parts o p (name, form, arguments, result));
     }
 
-pub test_well_formed : (signature : Signature) → IsWellFormedSignature signature → is_well_formed signature ≡ true
+pub test_well_formed : (signature : Signature) → IsWellFormedSignature signature → is_well_formed_signature signature ≡ true
 test_well_formed signature fine =
     and_from (list_all (has_known_sorts (length signature.sorts)) signature.operations)
     (all_differ are_one_sort signature.sorts && all_differ are_one_operation signature.operations)
@@ -131,12 +127,12 @@ test_well_formed signature fine =
 
 -- lists that are those that were tested
 pub tested : (sorts one : List CodeSort) (ops other : List Op) (r : Bool) → one ≡ sorts → other ≡ ops
-    → r ≡ is_well_formed (signature_listing one other) → is_well_formed (signature_listing sorts ops) ≡ r
+    → r ≡ is_well_formed_signature (signature_listing one other) → is_well_formed_signature (signature_listing sorts ops) ≡ r
 tested sorts one ops other r same alike is =
-    sym (is ∙ ap (λ (xs : List CodeSort). is_well_formed (signature_listing xs other)) same
-    ∙ ap (λ (ys : List Op). is_well_formed (signature_listing sorts ys)) alike)
+    sym (is ∙ ap (λ (xs : List CodeSort). is_well_formed_signature (signature_listing xs other)) same
+    ∙ ap (λ (ys : List Op). is_well_formed_signature (signature_listing sorts ys)) alike)
 
-pub not_well_formed : (signature : Signature) → is_well_formed signature ≡ false → ¬ IsWellFormedSignature signature
+pub not_well_formed : (signature : Signature) → is_well_formed_signature signature ≡ false → ¬ IsWellFormedSignature signature
 not_well_formed signature test fine = let both : true ≡ false = sym (test_well_formed signature fine) ∙ test in cc
 
 pub earlier_differ : {A : Type 0} (same : A → A → Bool) → ((x y : A) → same x y ≡ same y x) → (kept : List A) (x : A) (xs : List A)

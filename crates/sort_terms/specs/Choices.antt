@@ -4,9 +4,9 @@ use Rattle.sort_terms.specs.declared.choices.Choice.{Choice}
 use Rattle.sort_terms.specs.declared.choices.Source.{Source}
 
 -- readings of one head, and those that were known before
-abbrev pub joined : Option Choice → Source → Bool → Option Choice
-joined None source several = Some (record { source = source; several = several })
-joined (Some known) source several = Some (record { source = known.source; several = true })
+abbrev pub joined_readings : Option Choice → Source → Bool → Option Choice
+joined_readings None source several = Some (record { source = source; several = several })
+joined_readings (Some known) source several = Some (record { source = known.source; several = true })
 
 -- readings of pairs
 abbrev pub both : Option Choice → Option Choice → Option Choice

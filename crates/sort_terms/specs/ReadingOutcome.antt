@@ -48,9 +48,9 @@ unknown_sorts signature (asked ∷ rest) =
     (if is_sort_name signature asked.name then [] else unknown_sort asked.place ∷ []) ++ unknown_sorts signature rest
 
 -- the lists one after the other
-abbrev pub together : List (List ReadingRefusal) → List ReadingRefusal
-together [] = []
-together (list ∷ lists) = list ++ together lists
+abbrev pub refusals_together : List (List ReadingRefusal) → List ReadingRefusal
+refusals_together [] = []
+refusals_together (list ∷ lists) = list ++ refusals_together lists
 
 -- how many arguments stand before the name
 abbrev pub arguments_before : Form → ℕ
@@ -60,7 +60,7 @@ arguments_before infix_form = 1
 -- what is found at a name and in each argument, in text order: an infix operation stands behind its first argument
 abbrev pub in_text_order : Form → List ReadingRefusal → List (List ReadingRefusal) → List ReadingRefusal
 in_text_order form here arguments =
-    together (take (arguments_before form) arguments) ++ here ++ together (drop (arguments_before form) arguments)
+    refusals_together (take (arguments_before form) arguments) ++ here ++ refusals_together (drop (arguments_before form) arguments)
 
 abbrev mutual
   -- All names in the term that stand for nothing, in text order: each `of` stands behind what it is put on.

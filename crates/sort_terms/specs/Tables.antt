@@ -6,7 +6,7 @@ use Rattle.lotos_base.specs.Signature.{Signature, Operation, Form}
 use Rattle.lotos_base.specs.Equation.{Variable as DeclaredVariable}
 use Rattle.lotos_base.specs.Twins.{form_eq}
 use Rattle.sort_terms.specs.Asked.{allows}
-use Rattle.sort_terms.specs.Choices.{joined}
+use Rattle.sort_terms.specs.Choices.{joined_readings}
 use Rattle.sort_terms.specs.ProfiledTerm.{ProfiledTerm, ProfiledTerms, profiled_variable, profiled_node, no_profiled_terms, profiled_term_then}
 use Rattle.sort_terms.specs.declared.asked.Asked.{Asked}
 use Rattle.sort_terms.specs.declared.choices.Choice.{Choice}
@@ -23,21 +23,21 @@ mutual
     table_then : Table → Tables → Tables
 
 -- what is known at a sort
-abbrev pub choice_in : Table → ℕ → Option Choice
-choice_in (table choices arguments) = choices
+abbrev pub choice_at_sort : Table → ℕ → Option Choice
+choice_at_sort (table choices arguments) = choices
 
 -- one argument more: whether there are several readings, if there is one at all
-abbrev pub with_argument : Option Choice → Option Bool → Option Bool
-with_argument None rest = None
-with_argument (Some choice) None = None
-with_argument (Some choice) (Some several) = Some (choice.several || several)
+abbrev pub with_argument_read : Option Choice → Option Bool → Option Bool
+with_argument_read None rest = None
+with_argument_read (Some choice) None = None
+with_argument_read (Some choice) (Some several) = Some (choice.several || several)
 
 -- whether arguments have several readings at these sorts, if they have one at all
 abbrev pub combined : List ℕ → Tables → Option Bool
 combined [] no_tables = Some false
 combined [] (table_then t ts) = None
 combined (s ∷ ss) no_tables = None
-combined (s ∷ ss) (table_then t ts) = with_argument (choice_in t s) (combined ss ts)
+combined (s ∷ ss) (table_then t ts) = with_argument_read (choice_at_sort t s) (combined ss ts)
 
 -- an operation's result sort where it may stand at a node, and whether its arguments have several readings
 abbrev pub offered_by : Form → Asked → Tables → Operation → Option (ℕ × Bool)
@@ -51,14 +51,14 @@ abbrev pub offered_if : Form → Asked → Tables → Option Operation → Optio
 offered_if form asked arguments None = None
 offered_if form asked arguments (Some operation) = offered_by form asked arguments operation
 
-abbrev pub offered : Signature → Form → Asked → Tables → ℕ → Option (ℕ × Bool)
-offered signature form asked arguments number = offered_if form asked arguments (slice_get signature.operations number)
+abbrev pub operation_offered : Signature → Form → Asked → Tables → ℕ → Option (ℕ × Bool)
+operation_offered signature form asked arguments number = offered_if form asked arguments (slice_get signature.operations number)
 
 -- what is known at a sort once one more operation was looked at
 abbrev pub with_offer : ℕ → Option Choice → ℕ → Option (ℕ × Bool) → Option Choice
 with_offer sort known number None = known
 with_offer sort known number (Some offer) =
-    if nat_eq sort offer.0 then joined known (FromOperation number) offer.1 else known
+    if nat_eq sort offer.0 then joined_readings known (FromOperation number) offer.1 else known
 
 -- what is known at a sort once each of the operations was looked at
 abbrev pub gathered : (ℕ → Option (ℕ × Bool)) → ℕ → Option Choice → List ℕ → Option Choice

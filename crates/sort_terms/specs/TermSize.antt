@@ -28,6 +28,6 @@ IsTurnOf first others (Further next list) = (size_of next < first) × (size_of n
 IsTurnOf first others (Done left shared) = sizes_of left.items + shared_sizes shared < first + others
 
 -- the term that is made of the parts
-abbrev pub whole_of : Parts → Term
-whole_of (Variable number sort) = Var number sort
-whole_of (Operation op profile arguments) = Node op profile arguments
+abbrev pub whole_of_parts : Parts → Term
+whole_of_parts (Variable number sort) = Var number sort
+whole_of_parts (Operation op profile arguments) = Node op profile arguments

@@ -25,5 +25,5 @@ abbrev pub term_of : Term → PlainTerm
 term_of t = bare (profiled_of t)
 
 -- the terms of a list
-abbrev pub terms_of : List Term → Terms
-terms_of ts = all_bare (all_profiled ts)
+abbrev pub bare_terms_of : List Term → Terms
+bare_terms_of ts = all_bare (all_profiled ts)

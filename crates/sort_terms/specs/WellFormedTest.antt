@@ -30,7 +30,7 @@ all_differ same [] = true
 all_differ same (x ∷ xs) = not (list_any (same x) xs) && all_differ same xs
 
 -- whether the signature is well formed
-abbrev pub is_well_formed : Signature → Bool
-is_well_formed signature =
+abbrev pub is_well_formed_signature : Signature → Bool
+is_well_formed_signature signature =
     list_all (has_known_sorts (length signature.sorts)) signature.operations
     && (all_differ are_one_sort signature.sorts && all_differ are_one_operation signature.operations)

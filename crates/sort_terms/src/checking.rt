@@ -8,7 +8,7 @@ ghost use Rattle.sort_terms.specs.WellFormedTest.{
   are_one_operation,
   are_one_sort,
   has_known_sorts,
-  is_well_formed,
+  is_well_formed_signature,
 };
 ghost use Rattle.std.specs.List.{list_all, list_any};
 ghost use Rattle.std.specs.Prelude.{◌≡◌, ◌<◌, ◌≤◌, drop, length, map};
@@ -17,7 +17,7 @@ use crate::operations::{Op, Sort};
 
 /// Whether the lists make a well-formed signature.
 pub(crate) fn make_a_signature(sorts: &[Sort], ops: &[Op]) -> bool
-    ensures { result ≡ is_well_formed (signature_listing sorts.now ops.now) }
+    ensures { result ≡ is_well_formed_signature (signature_listing sorts.now ops.now) }
 {
     if !have_known_sorts(ops, sorts.len()) {
         return false;

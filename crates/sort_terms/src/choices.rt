@@ -1,7 +1,7 @@
 //! What a written term may be at each sort.
 
 ghost use Rattle.std.specs.Prelude.{◌≡◌, ◌||◌, ℕ, None, IfOk, OnOk, if◌then◌else◌, nat_eq};
-ghost use Rattle.sort_terms.specs.Choices.{both, joined};
+ghost use Rattle.sort_terms.specs.Choices.{both, joined_readings};
 
 use lotos_base::NoMemory;
 use std::alloc::Global;
@@ -57,7 +57,7 @@ impl Choices {
     /// Adds readings of a sort that have this head: one, or several.
     pub fn add(&mut self, sort: u32, source: Source, several: bool) -> Result<(), NoMemory>
         ensures { OnOk result ((s : ℕ) → choice_at self.new s
-            ≡ (if nat_eq s sort then joined
+            ≡ (if nat_eq s sort then joined_readings
             (choice_at self.old sort) source several else choice_at self.old s)) }
     {
         let choice = match self.by_sort.get(&sort) {

@@ -22,7 +22,7 @@ ghost use Rattle.sort_terms.specs.Suiting.{AllSuit, Means, Suits};
 ghost use Rattle.sort_terms.specs.Tables.{
   combined,
   gathered,
-  offered,
+  operation_offered,
   offered_by,
   only_variable,
   with_offer,
@@ -157,7 +157,7 @@ impl Reader<'_> {
         arguments: &Vec<Counted>,
     ) -> Result<Choices, NoMemory>
         ensures { IfOk result (λ c. (s : ℕ) → choice_at c s
-            ≡ gathered (offered (signature_read self.now) (form_of form) asked
+            ≡ gathered (operation_offered (signature_read self.now) (form_of form) asked
             (tables_of arguments.now.items)) s None
             (positions_of (folded (spelling name.now))
             (map (λ o. o.name) (signature_read self.now).operations))) }
@@ -181,7 +181,7 @@ impl Reader<'_> {
         requires { number < length self.now.signature.now.ops.items }
         ensures { OnOk result ((s : ℕ) → choice_at choices.new s ≡ with_offer s
             (choice_at choices.old s) number
-            (offered (signature_read self.now) (form_of form) asked
+            (operation_offered (signature_read self.now) (form_of form) asked
             (tables_of arguments.now.items) number)) }
     {
         let op = &self.signature.ops()[number];

@@ -1,7 +1,7 @@
 //! Whether a variable stands in a term.
 
 ghost use Rattle.lotos_base.specs.Tests.{occurs, occurs_among};
-ghost use Rattle.sort_terms.specs.TermView.{term_of, terms_of};
+ghost use Rattle.sort_terms.specs.TermView.{term_of, bare_terms_of};
 ghost use Rattle.std.specs.Prelude.{◌≡◌};
 
 use crate::terms::Term;
@@ -25,7 +25,7 @@ pub fn has_variable(term: &Term, number: u64, sort: u32) -> bool
 // Whether it stands in one of the terms.
 #[cycle(occurrence)]
 fn have_variable(terms: &Vec<Term>, number: u64, sort: u32) -> bool
-    ensures { result ≡ occurs_among number sort (terms_of terms.now.items) }
+    ensures { result ≡ occurs_among number sort (bare_terms_of terms.now.items) }
 {
     for term in terms {
         if has_variable(term, number, sort) {

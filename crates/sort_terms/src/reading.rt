@@ -9,7 +9,7 @@ ghost use Rattle.sort_terms.specs.ReadingOutcome.{PairReadingIs, ReadingIs, answ
 ghost use Rattle.sort_terms.specs.RefusalView.{UnlessNoMemory};
 ghost use Rattle.sort_terms.specs.ScopeView.{variables_in};
 ghost use Rattle.sort_terms.specs.SortedView.{profiled_in, term_in};
-ghost use Rattle.sort_terms.specs.Tables.{choice_in};
+ghost use Rattle.sort_terms.specs.Tables.{choice_at_sort};
 ghost use Rattle.sort_terms.specs.TableView.{table_of};
 ghost use Rattle.std.specs.Prelude.{◌≡◌, IfErr, IfOk};
 
@@ -103,7 +103,7 @@ impl Reader<'_> {
 
 // How many readings there are of the expected sort, or over all sorts.
 fn found_at(counted: &Counted, expected: Option<u32>) -> Found
-    ensures { IsFoundAt (choice_in (table_of counted.now)) expected result }
+    ensures { IsFoundAt (choice_at_sort (table_of counted.now)) expected result }
 {
     let Some(sort) = expected else {
         return counted.choices.found();

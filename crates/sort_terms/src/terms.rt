@@ -3,8 +3,8 @@
 ghost use Rattle.sort_terms.specs.Known.{HoldOf, HoldOfAll};
 ghost use Rattle.sort_terms.specs.Likenesses.{IsBelow, Tells, TellsAll};
 ghost use Rattle.sort_terms.specs.ProfiledTerm.{all_bare, head_sort};
-ghost use Rattle.sort_terms.specs.TermSize.{IsTurnOf, size_of, sizes_of, whole_of};
-ghost use Rattle.sort_terms.specs.TermView.{all_profiled, profiled_of, term_of, terms_of};
+ghost use Rattle.sort_terms.specs.TermSize.{IsTurnOf, size_of, sizes_of, whole_of_parts};
+ghost use Rattle.sort_terms.specs.TermView.{all_profiled, profiled_of, term_of, bare_terms_of};
 ghost use Rattle.sort_terms.specs.declared.terms.Term.TheVariants.{Node as node_of};
 ghost use Rattle.std.specs.Prelude.{◌≡◌, ◌↔◌, ◌+◌, IfErr, IfOk, IsTrue};
 ghost use Rattle.lotos_base.specs.Sorting.{AreGround, IsGround};
@@ -216,7 +216,7 @@ impl Drop for Term {
 impl Term {
     /// What the term is made of.
     pub fn into_parts(self) -> Parts
-        ensures { whole_of result ≡ self }
+        ensures { whole_of_parts result ≡ self }
     {
         match self {
             Term::Var { number, sort } => Parts::Variable { number, sort },
@@ -327,7 +327,7 @@ impl Arguments {
 
 // What is known of the terms of the list.
 fn facts_of(terms: &Vec<Term>) -> Facts
-    ensures { HoldOfAll result (terms_of terms.now.items) }
+    ensures { HoldOfAll result (bare_terms_of terms.now.items) }
 {
     let mut facts = Facts::of_no_terms();
     for i in 0..terms.len() {
@@ -376,7 +376,8 @@ fn compared<'a>(one: &'a Term, two: &'a Term) -> Likeness<'a>
 // Whether the lists are identical, but for their last terms.
 #[cycle(identity)]
 fn same_but_last<'a>(terms: &'a Vec<Term>, others: &'a Vec<Term>) -> Likeness<'a>
-    ensures tells { TellsAll (terms_of terms.now.items) (terms_of others.now.items) result }
+    ensures tells { TellsAll (bare_terms_of terms.now.items)
+        (bare_terms_of others.now.items) result }
     ensures below { IsBelow (1 + sizes_of terms.now.items) result }
 {
     if terms.len() != others.len() {
@@ -396,7 +397,7 @@ fn same_but_last<'a>(terms: &'a Vec<Term>, others: &'a Vec<Term>) -> Likeness<'a
 // Whether no term of the list has a variable.
 #[cycle(ground)]
 fn are_ground(terms: &Vec<Term>) -> bool
-    ensures { IsTrue result ↔ AreGround (terms_of terms.now.items) }
+    ensures { IsTrue result ↔ AreGround (bare_terms_of terms.now.items) }
 {
     for term in terms {
         if !term.is_ground() {

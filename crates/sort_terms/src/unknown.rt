@@ -8,7 +8,7 @@ ghost use Rattle.sort_terms.specs.ReaderView.{signature_read};
 ghost use Rattle.sort_terms.specs.ReadingOutcome.{
   is_known,
   is_operation_name,
-  together,
+  refusals_together,
   unknown_in,
   unknown_sorts,
 };
@@ -60,7 +60,7 @@ impl Reader<'_> {
     ) -> Result<Option<SortFault>, NoMemory>
         requires order { from ≤ to }
         requires end { to ≤ length written.now.items }
-        ensures { IfOk result (IsFirstRefusal (together (map
+        ensures { IfOk result (IsFirstRefusal (refusals_together (map
             (λ w. unknown_in (signature_read self.now) (variables_in scope.now) (written_term_of w))
             (between from to written.now.items)))) }
     {

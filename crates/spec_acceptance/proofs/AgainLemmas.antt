@@ -26,7 +26,7 @@ use Rattle.refusal_lines.specs.HandedOn.{IsSpecificationReading, ShelfState, Giv
 use Rattle.refusal_lines.specs.StartValues.{HaveValues, WordTerm}
 use Rattle.refusal_lines.proofs.HandedOn.{all_have_one_outcome, every_both}
 use Rattle.spec_acceptance.specs.Acceptance.{Founded, FoundedBy, Founds, StartsWithValues, Acceptance, accepted_with, AcceptsText, IsAccepted}
-use Rattle.spec_acceptance.specs.AcceptedView.{AcceptsWith, asked_for}
+use Rattle.spec_acceptance.specs.AcceptedView.{AcceptsWith, asked_acceptance}
 use Rattle.spec_acceptance.specs.Again.{IsTextOf, KeepsAccepted, IsOverSame, StandsOver, BeginsOver}
 use Rattle.spec_acceptance.specs.Part.{goes_on, Part, Then, Has}
 use Rattle.spec_acceptance.specs.Texts.{GetsFile, ReadsSpecification, Gathers, Orders}
@@ -96,7 +96,7 @@ text_of text files acceptance came =
     }
 
 pub accepted_data : (name : List ℕ) (files : List GotFile) (acceptance : Acceptance)
-    → IsAccepted (asked_for name None []) files (goes_on acceptance) → IsWellFormedData acceptance.data_
+    → IsAccepted (asked_acceptance name None []) files (goes_on acceptance) → IsWellFormedData acceptance.data_
 accepted_data name files acceptance came =
     let t = then_on (GetsFile name) (λ text. AcceptsText text None []) files acceptance came in
     let f = then_on (Founds t.0 None) (λ founded. Then (StartsWithValues founded []) (λ values. Has (accepted_with founded values))) t.2
@@ -107,7 +107,7 @@ accepted_data name files acceptance came =
 
 pub kept_with_text : (a b c : ShelfState) (name text given : List ℕ) (whole : WithText) → GivesFile a b name text → given ≡ text
     → whole.text.items ≡ text → AcceptsWith b c (AcceptsText given None []) whole.accepted
-    → KeepsAccepted a c (asked_for name None []) whole
+    → KeepsAccepted a c (asked_acceptance name None []) whole
 kept_with_text a b c name text given whole gives all kept accepts = record {
   acceptance = accepts.0;
   came =
@@ -121,7 +121,7 @@ kept_with_text a b c name text given whole gives all kept accepts = record {
 
 -- it was not accepted
 pub accepted_out : (a b c : ShelfState) (name text given : List ℕ) (fault : NotAccepted) → GivesFile a b name text → given ≡ text
-    → Failed b c (AcceptsText given None []) fault → Failed a c (IsAccepted (asked_for name None [])) fault
+    → Failed b c (AcceptsText given None []) fault → Failed a c (IsAccepted (asked_acceptance name None [])) fault
 accepted_out a b c name text given fault gives all failed =
     failed_then a b c (GetsFile name) (λ t. AcceptsText t None []) text fault (file_did a b name text gives)
     (subst (λ (t : List ℕ). Failed b c (AcceptsText t None []) fault) all failed)

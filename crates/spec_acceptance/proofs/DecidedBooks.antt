@@ -4,13 +4,12 @@ use Rattle.std.specs.Prelude.{Option}
 use Rattle.lotos_base.specs.WrittenTerm.{PlacedName, ListedOperation}
 use Rattle.lotos_base.specs.Equation.{Place, Data, IsWellFormedData}
 use Rattle.lotos_base.specs.Term.{Term}
-use Rattle.rewriting_theory.specs.Rule.{AreWellFormedRules}
 use Rattle.rewriting_theory.specs.Rewriting.{AreConfluent}
 use Rattle.rewriting_theory.specs.ChosenForm.{Chosen, Chooses}
 use Rattle.rewriting_theory.proofs.ChosenLemmas.{chosen_one}
 use Rattle.termination_theory.specs.Precedence.{Precedence}
 use Rattle.termination_theory.specs.Orientation.{NumberedRule, rules_of, IsOrientation, IsFirstUnorientable}
-use Rattle.termination_theory.proofs.OrientationLemmas.{oriented_well_formed, rules_of_data}
+use Rattle.termination_theory.proofs.OrientationLemmas.{orientation_well_formed}
 use Rattle.path_order.specs.Listing.{IsFirstWrong, listed_name, listed_status}
 use Rattle.path_order.specs.OrderedBy.{IsPrecedenceBy}
 use Rattle.refusal_lines.specs.HandedOn.{AreUnjoinedBy, IsOpenedBy}
@@ -36,10 +35,6 @@ alike items data_ p q is also = record {
       greater_also (count_of data_) q p (over_once data_.signature items q p also is)
       (statuses_once data_.signature items q p also is);
 }
-
-well_formed : (p : Precedence) (data_ : Data) (rules : List NumberedRule) → IsOrientation p data_ rules
-    → AreWellFormedRules (rules_of rules)
-well_formed p data_ rules is = oriented_well_formed p (rules_of rules) (rules_of_data p data_ rules is).1
 
 -- ---- The faults
 
@@ -110,7 +105,8 @@ module _ (items : List ListedOperation) (data_ : Data) (well : IsWellFormedData 
       let same : rules ≡ others =
       rules_once (count_of data_) p q (alike items data_ p q is also) data_ rules others within oriented also_oriented in
       let are : AreSame first second one two peak left right top more rest =
-      unjoined_once data_.signature rules first second one two peak left right top more rest (well_formed p data_ rules oriented)
+      unjoined_once data_.signature rules first second one two peak left right top more rest
+      (orientation_well_formed p data_ rules oriented)
       pair
       (subst (λ (rs : List NumberedRule). AreUnjoinedBy data_.signature rs one two top more rest) (sym same) other) in
       (λ i. not_joined (are.firsts i) (are.seconds i) (are.peaks i) (are.lefts i) (are.rights i))
@@ -201,7 +197,7 @@ pub normal_forms_once : (items : List ListedOperation) (data_ : Data) → IsWell
 normal_forms_once items data_ well p q rules others is also canon other chooses chooses_too =
     let same : rules ≡ others = opened_rules_once items data_ well p q rules others is also in
     let each : (t : Term) → canon t ≡ other t = λ t.
-    chosen_one (well_formed p data_ rules is.joined.0) (chooses t)
+    chosen_one (orientation_well_formed p data_ rules is.joined.0) (chooses t)
     (subst (λ (rs : List NumberedRule). Chosen (rules_of rs) t (other t)) (sym same) (chooses_too t))
     in
     (λ i t. each t i)

@@ -13,7 +13,7 @@ use Rattle.behaviour_tree.specs.declared.definitions.Process.{Process}
 use Rattle.behaviour_tree.specs.declared.definitions.Spec.{Spec}
 use Rattle.static_scope.specs.KeptPlaces.{places_of}
 use Rattle.static_scope.specs.TextPlaces.{text_places}
-use Rattle.refusal_lines.specs.HandedOn.{calls_of, process_at, called_by, graph_of, Functionality, Disagreement, all_disagreements}
+use Rattle.refusal_lines.specs.HandedOn.{call_sites_of, process_at, called_by, call_graph_of, Functionality, Disagreement, all_disagreements}
 use Rattle.refusal_lines.specs.HandedOn.{IsFirstOnCycle, IsKeptCycle, LiesOnCycle, CallsHaveCycle, IsSiteAt, IsUnguarded, CallSite}
 use Rattle.refusal_lines.proofs.HandedOn.{not_guarded, way_of_leads}
 use Rattle.spec_acceptance.specs.PartLaws.{IsDecided}
@@ -101,10 +101,10 @@ called_seen : (sites : List CallSite) → map call_number (map placed_call sites
 called_seen [] = refl
 called_seen (s ∷ sites) = ap (λ (ns : List ℕ). s.process ∷ ns) (called_seen sites)
 
-graph_seen : (processes : List Process) → map numbers_in (map seen_by processes) ≡ graph_of processes
+graph_seen : (processes : List Process) → map numbers_in (map seen_by processes) ≡ call_graph_of processes
 graph_seen [] = refl
 graph_seen (p ∷ processes) =
-    ap (λ (ns : List ℕ). ns ∷ map numbers_in (map seen_by processes)) (called_seen (calls_of p.body))
+    ap (λ (ns : List ℕ). ns ∷ map numbers_in (map seen_by processes)) (called_seen (call_sites_of p.body))
     ∙ ap (λ (rest : List (List ℕ)). called_by p ∷ rest) (graph_seen processes)
 
 -- the place of a call
@@ -123,7 +123,7 @@ site_placed : (kept : Spec) (process position : ℕ) (place : code.Place) → Is
     → place_there (map seen_by kept.processes.items) process position ≡ Some (text_place_of place)
 site_placed kept process position place is =
     ap (place_among position) (at_map seen_by kept.processes.items process is.caller is.found)
-    ∙ ap place_of_call (at_map placed_call (calls_of is.caller.body) position is.site is.stands)
+    ∙ ap place_of_call (at_map placed_call (call_sites_of is.caller.body) position is.site is.stands)
     ∙ ap (λ (at : code.Place). Some (text_place_of at)) is.placed
 
 -- the first call on a cycle of these calls, with its place and the cycle that is kept
@@ -155,13 +155,13 @@ cycle_told_once calls place other process also cycle too one two =
     same = first_is_one (map numbers_in calls) process also one.position two.position one.first two.first
 
 -- a cycle of what is kept is none of a guarded specification
-cycle_of : (kept : Spec) (process position : ℕ) → LiesOnCycle (graph_of kept.processes.items) process position
-    → CallsHaveCycle (graph_of kept.processes.items)
+cycle_of : (kept : Spec) (process position : ℕ) → LiesOnCycle (call_graph_of kept.processes.items) process position
+    → CallsHaveCycle (call_graph_of kept.processes.items)
 cycle_of kept process position on = (
   process,
   (
     length on.positions,
-    way_of_leads (graph_of kept.processes.items) process (position ∷ on.positions) on.way process on.leads,
+    way_of_leads (call_graph_of kept.processes.items) process (position ∷ on.positions) on.way process on.leads,
   ),
 )
 
@@ -173,7 +173,7 @@ module _ (data_ : Data) (tree : WrittenSpecification) (spec : Specification) whe
   calls_are_told kept keeps =
       sym (calls_are_by kept) ∙ ap (λ (s : Specification). calls_by s (places_of kept)) keeps.same ∙ ap (calls_by spec) keeps.places
 
-  graph_told : (kept : Spec) → KeepsSpecification data_ tree spec kept → graph_of kept.processes.items ≡ map numbers_in calls_all
+  graph_told : (kept : Spec) → KeepsSpecification data_ tree spec kept → call_graph_of kept.processes.items ≡ map numbers_in calls_all
   graph_told kept keeps =
       sym (graph_seen kept.processes.items) ∙ ap (λ (calls : List (List PlacedCall)). map numbers_in calls) (calls_are_told kept keeps)
 

@@ -8,13 +8,13 @@ use Rattle.lotos_base.specs.Signature.{Signature}
 use Rattle.rewriting_theory.proofs.PairListLemmas.{neither_less}
 use Rattle.termination_theory.specs.Precedence.{Status, from_left, from_right, Precedence, IsOver}
 use Rattle.path_order.proofs.OneListing.{listed_by_once}
-use Rattle.path_order.specs.Listing.{AreListed, none_listed, listed_then, IsAbove, IsUnknown, IsTwice, IsBadAlone, IsFineItem, IsFirstWrong, listed_name, listed_status}
+use Rattle.path_order.specs.Listing.{AreListedByItems, none_listed, listed_then, IsAbove, IsUnknown, IsTwice, IsBadAlone, IsFineItem, IsFirstWrong, listed_name, listed_status}
 use Rattle.path_order.specs.OrderedBy.{IsPrecedenceBy}
 
 -- ---- The order of the items
 
-listed_once : {signature : Signature} {items : List ListedOperation} {one other : List ℕ} → AreListed signature items one
-    → AreListed signature items other → one ≡ other
+listed_once : {signature : Signature} {items : List ListedOperation} {one other : List ℕ} → AreListedByItems signature items one
+    → AreListedByItems signature items other → one ≡ other
 listed_once none_listed none_listed = refl
 listed_once {signature = signature} (listed_then {item = item} {fs = fs} one more) (listed_then {fs = gs} also rest) =
     let first : fs ≡ gs = listed_by_once signature item fs gs one also in

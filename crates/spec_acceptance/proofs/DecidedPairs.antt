@@ -7,7 +7,7 @@ use Rattle.lotos_base.specs.Sorting.{HasSort}
 use Rattle.lotos_base.specs.Substitution.{Substitution, substituted}
 use Rattle.rewriting_theory.specs.Rule.{Rule, IsNode, AreWellFormedRules}
 use Rattle.rewriting_theory.specs.CriticalPair.{CriticalPair, IsCriticalPair}
-use Rattle.rewriting_theory.specs.PairList.{PairPlace, place_of, AreCriticalPairs, IsFirstUnjoined}
+use Rattle.rewriting_theory.specs.PairList.{PairPlace, place_of_critical_pair, AreCriticalPairs, IsFirstUnjoined}
 use Rattle.rewriting_theory.proofs.PairListLemmas.{first_unjoined_once}
 use Rattle.rewriting_theory.proofs.PlaceListLemmas.{same_places}
 use Rattle.rewriting_theory.proofs.UniqueLemmas.{pairs_unique}
@@ -26,7 +26,7 @@ instances_have_one_sort signature (node f ts) values others r s is one other =
 
 -- so have two peaks at one place
 peaks_have_one_sort : (signature : Signature) (rules : List Rule) → AreWellFormedRules rules → (one other : CriticalPair)
-    → IsCriticalPair rules one → IsCriticalPair rules other → place_of one ≡ place_of other → (r s : ℕ)
+    → IsCriticalPair rules one → IsCriticalPair rules other → place_of_critical_pair one ≡ place_of_critical_pair other → (r s : ℕ)
     → HasSort signature one.peak r → HasSort signature other.peak s → r ≡ s
 peaks_have_one_sort signature rules well one other is also at r s h k =
     let same : is.place.first_rule ≡ also.place.first_rule =
@@ -47,14 +47,15 @@ behind_first [] = []
 behind_first (p ∷ ps) = ps
 
 -- lists of pairs that go through the same places, with one pair at a place, are one
-list_once : (pairs others : List CriticalPair) → map place_of pairs ≡ map place_of others
+list_once : (pairs others : List CriticalPair) → map place_of_critical_pair pairs ≡ map place_of_critical_pair others
     → ((k : ℕ) (one other : CriticalPair) → slice_get pairs k ≡ Some one → slice_get others k ≡ Some other
-    → place_of one ≡ place_of other → one ≡ other) → pairs ≡ others
+    → place_of_critical_pair one ≡ place_of_critical_pair other → one ≡ other) → pairs ≡ others
 list_once [] [] same each = refl
 list_once [] (other ∷ others) same each = cc
 list_once (one ∷ pairs) [] same each = cc
 list_once (one ∷ pairs) (other ∷ others) same each =
-    let at : place_of one ≡ place_of other = ap (λ (ps : List PairPlace). first_place (place_of one) ps) same in
+    let at : place_of_critical_pair one ≡ place_of_critical_pair other =
+    ap (λ (ps : List PairPlace). first_place (place_of_critical_pair one) ps) same in
     let first : one ≡ other = each zero one other refl refl at in
     let rest : pairs ≡ others =
     list_once pairs others (ap (λ (ps : List PairPlace). behind_first ps) same) (λ k x y. each (suc k) x y) in

@@ -12,7 +12,7 @@ use Rattle.behaviour_tree.specs.declared.definitions.Process.{Process}
 use Rattle.behaviour_tree.specs.declared.definitions.Spec.{Spec}
 use Rattle.static_scope.specs.HandedOn.{places_in}
 use Rattle.static_scope.specs.KeptPlaces.{places_of_processes, places_of}
-use Rattle.refusal_lines.specs.HandedOn.{calls_of, CallSite}
+use Rattle.refusal_lines.specs.HandedOn.{call_sites_of, CallSite}
 
 -- what is told by the first places, with the places behind them
 abbrev pub Taken : Type 0 → Type 0
@@ -95,14 +95,14 @@ calls_told (relabel pairs b) = calls_told b
 
 -- the calls of a behaviour of the code, with their places
 abbrev pub calls_seen : Beh → List PlacedCall
-calls_seen b = map placed_call (calls_of b)
+calls_seen b = map placed_call (call_sites_of b)
 
 both_calls : (left right : Beh) (f g : List Place → Taken PlacedCall) (p : Place) → Tells f (places_in left) (calls_seen left)
     → Tells g (places_in right) (calls_seen right)
-    → Tells (both f g) (places_in left ++ p ∷ places_in right) (map placed_call (calls_of left ++ calls_of right))
+    → Tells (both f g) (places_in left ++ p ∷ places_in right) (map placed_call (call_sites_of left ++ call_sites_of right))
 both_calls left right f g p one other rest =
     both_tell f g (places_in left) (places_in right) p (calls_seen left) (calls_seen right) one other rest
-    ∙ ap (λ (xs : List PlacedCall). taken xs rest) (sym (map-append placed_call (calls_of left) (calls_of right)))
+    ∙ ap (λ (xs : List PlacedCall). taken xs rest) (sym (map-append placed_call (call_sites_of left) (call_sites_of right)))
 
 pub calls_are_told : (b : Beh) → Tells (calls_told (behaviour_of b)) (places_in b) (calls_seen b)
 calls_are_told Stop = λ rest. refl

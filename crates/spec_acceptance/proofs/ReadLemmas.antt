@@ -12,7 +12,7 @@ use Rattle.spec_acceptance.specs.Ending.{at_first, with_spec}
 use Rattle.spec_acceptance.specs.Part.{goes_on, Part, Then, Has}
 use Rattle.spec_acceptance.specs.Texts.{GetsFile, text_told, ReadsSpecification}
 use Rattle.spec_acceptance.specs.Acceptance.{Founded, FoundedBy, Founds, start_of, StartsWithValues, Acceptance, accepted_with, AcceptsText, IsAccepted, IsFounded}
-use Rattle.spec_acceptance.specs.AcceptedView.{HoldsAccepted, AcceptsWith, asked_for}
+use Rattle.spec_acceptance.specs.AcceptedView.{HoldsAccepted, AcceptsWith, asked_acceptance}
 use Rattle.spec_acceptance.specs.Doing.{Did, Failed, Faulty, FileIsNotGot}
 use Rattle.spec_acceptance.specs.Required.{HoldsRequired, AcceptsRequiring}
 use Rattle.spec_acceptance.specs.declared.required.Required.{Required}
@@ -162,7 +162,7 @@ module _ (a b : ShelfState) (text : List ℕ) (order : Option (List ℕ)) (words
 
 -- the specification is not got
 pub not_got : (a b : ShelfState) (name : List ℕ) (order : Option (List ℕ)) (words : List (List ℕ)) (fault : NotAccepted)
-    → FileIsNotGot a b name fault → Failed a b (IsAccepted (asked_for name order words)) fault
+    → FileIsNotGot a b name fault → Failed a b (IsAccepted (asked_acceptance name order words)) fault
 not_got a b name order words fault is =
     failed_first a b (GetsFile name) (λ text. AcceptsText text order words) fault (file_failed a b name fault is)
 
@@ -170,7 +170,8 @@ not_got a b name order words fault is =
 behind : (a b c : ShelfState) (name text : List ℕ) (order : Option (List ℕ)) (words : List (List ℕ)) (r : Result Accepted NotAccepted)
     → GivesFile a b name text
     → MatchResult r (AcceptsWith b c (AcceptsText text order words)) (Failed b c (AcceptsText text order words))
-    → MatchResult r (AcceptsWith a c (IsAccepted (asked_for name order words))) (Failed a c (IsAccepted (asked_for name order words)))
+    → MatchResult r (AcceptsWith a c (IsAccepted (asked_acceptance name order words)))
+    (Failed a c (IsAccepted (asked_acceptance name order words)))
 behind a b c name text order words (Ok accepted) gives is = (
   is.0,
   did_then a b c (GetsFile name) (λ t. AcceptsText t order words) text (goes_on is.0) (file_did a b name text gives) is.1,
@@ -182,7 +183,8 @@ behind a b c name text order words (Err fault) gives is =
 pub read_whole : (a b c : ShelfState) (name text given : List ℕ) (order : Option (List ℕ)) (words : List (List ℕ))
     (r : Result Accepted NotAccepted) → GivesFile a b name text → given ≡ text
     → MatchResult r (AcceptsWith b c (AcceptsText given order words)) (Failed b c (AcceptsText given order words))
-    → MatchResult r (AcceptsWith a c (IsAccepted (asked_for name order words))) (Failed a c (IsAccepted (asked_for name order words)))
+    → MatchResult r (AcceptsWith a c (IsAccepted (asked_acceptance name order words)))
+    (Failed a c (IsAccepted (asked_acceptance name order words)))
 read_whole a b c name text given order words r gives all is =
     behind a b c name text order words r gives
     (subst (λ (t : List ℕ). MatchResult r (AcceptsWith b c (AcceptsText t order words)) (Failed b c (AcceptsText t order words))) all is)

@@ -9,7 +9,7 @@ use Rattle.type_definitions.specs.DeclaredTypes.{types_of}
 use Rattle.syntax_trees.specs.TreeViews.{item_of}
 use Rattle.syntax_trees.specs.declared.items.ItemText.{ItemText}
 use Rattle.spec_acceptance.specs.Acceptance.{FoundedBy, Founds, AcceptsText, IsAccepted}
-use Rattle.spec_acceptance.specs.AcceptedView.{asked_for}
+use Rattle.spec_acceptance.specs.AcceptedView.{asked_acceptance}
 use Rattle.spec_acceptance.specs.Doing.{Did, Failed}
 use Rattle.spec_acceptance.specs.Part.{goes_on}
 use Rattle.spec_acceptance.specs.Required.{HoldsRequired, RequiresWith, AcceptsRequiring}
@@ -45,8 +45,8 @@ text_requires a b text tree required (Err fault) read is = text_read a b text tr
 got_requires : (a b c : ShelfState) (name text : List ℕ) (required : Required) (r : Result Accepted NotAccepted)
     → GivesFile a b name text
     → MatchResult r (λ accepted. AcceptsRequiring b c (AcceptsText text None []) accepted required) (Failed b c (AcceptsText text None []))
-    → MatchResult r (λ accepted. AcceptsRequiring a c (IsAccepted (asked_for name None [])) accepted required)
-    (Failed a c (IsAccepted (asked_for name None [])))
+    → MatchResult r (λ accepted. AcceptsRequiring a c (IsAccepted (asked_acceptance name None [])) accepted required)
+    (Failed a c (IsAccepted (asked_acceptance name None [])))
 got_requires a b c name text required (Ok accepted) gives is = record {
   acceptance = is.acceptance;
   came =
@@ -61,8 +61,8 @@ pub read_requires : (a b c : ShelfState) (name text given : List ℕ) (required 
     → GivesFile a b name text → given ≡ text
     → MatchResult r (λ accepted. AcceptsRequiring b c (AcceptsText given None []) accepted required)
     (Failed b c (AcceptsText given None []))
-    → MatchResult r (λ accepted. AcceptsRequiring a c (IsAccepted (asked_for name None [])) accepted required)
-    (Failed a c (IsAccepted (asked_for name None [])))
+    → MatchResult r (λ accepted. AcceptsRequiring a c (IsAccepted (asked_acceptance name None [])) accepted required)
+    (Failed a c (IsAccepted (asked_acceptance name None [])))
 read_requires a b c name text given required r gives all is =
     got_requires a b c name text required r gives
     (subst (λ (t : List ℕ). MatchResult r (λ accepted. AcceptsRequiring b c (AcceptsText t None []) accepted required)

@@ -1,11 +1,9 @@
 -- Start values, and the state in which the specification begins with them.
-use Rattle.std.proofs.Common.{refl, ap, sym, ◌∙◌, ◌≡◌, subst, ℕ, List, [], ◌∷◌, ◌++◌, map, length, Option, option_map}
+use Rattle.std.proofs.Common.{refl, ap, sym, ◌∙◌, ◌≡◌, subst, ℕ, List, [], ◌++◌, map, length, Option, option_map}
 use Rattle.std.specs.Prelude.{Result, Ok, Err, IsErrAnd}
 use Rattle.refusal_lines.proofs.HandedOn.{every_both}
 use Rattle.lotos_base.specs.Name.{spelling}
 use Rattle.lotos_base.specs.WrittenTerm.{ListedOperation}
-use Rattle.lotos_base.proofs.CanonLemmas.{canon_ground}
-use Rattle.lotos_base.specs.Canon.{IsCanon}
 use Rattle.lotos_base.specs.Equation.{Data}
 use Rattle.lotos_base.specs.Signature.{Signature}
 use Rattle.lotos_base.specs.Term.{Term}
@@ -14,6 +12,7 @@ use Rattle.behaviour_semantics.specs.Replacement.{with_values, binding_of}
 use Rattle.behaviour_semantics.specs.Rule.{AreValues}
 use Rattle.behaviour_semantics.specs.WellFormed.{IsBehaviour}
 use Rattle.behaviour_semantics.proofs.PutTerms.{closed_by}
+use Rattle.behaviour_semantics.proofs.SupplyLemmas.{canon_values}
 use Rattle.sort_terms.specs.EquationView.{data_of}
 use Rattle.sort_terms.specs.ProfiledTerm.{ProfiledTerm, IsOf}
 use Rattle.sort_terms.specs.SignatureView.{signature_of}
@@ -56,7 +55,7 @@ start_at words signature sorts = record { signature = signature; sorts = sorts; 
 
 same_start : (whole : Resolved) (items : List ListedOperation) (words : List (List ℕ)) (known : WithBook) (flat : Flat)
     (parameters : List Variable) → KnowsBook whole items known → flat ≡ known.book.flat → parameters ≡ known.spec.parameters.items
-    → code.start_of flat.signature parameters words ≡ start_of whole.data_ whole.spec words
+    → code.given_start_of flat.signature parameters words ≡ start_of whole.data_ whole.spec words
 same_start whole items words known flat parameters knows same shown =
     ap (λ (g : Signature). start_at words g (parameter_sorts parameters))
     (ap (λ (f : Flat). signature_of f.signature) same ∙ ap (λ (d : Data). d.signature) knows.data_is)
@@ -65,7 +64,7 @@ same_start whole items words known flat parameters knows same shown =
 
 pub valued_fine : (words : List (List ℕ)) (known : WithBook) (flat : Flat) (parameters : List Variable) (made : WithValues)
     → flat ≡ known.book.flat → parameters ≡ known.spec.parameters.items → made.known ≡ known
-    → AreStartValues (code.start_of flat.signature parameters words) (terms_of made.values.items)
+    → AreStartValues (code.given_start_of flat.signature parameters words) (terms_of made.values.items)
     → AreTermsOf (signature_of flat.signature) (profiles_of made.values.items)
     → (whole : Resolved) (items : List ListedOperation) → KnowsBook whole items known → KnowsValues whole items words made
 valued_fine words known flat parameters made same shown kept are terms whole items knows = record {
@@ -96,7 +95,7 @@ refused_there known found answer IsFault refuses is whole items knows =
 
 pub valued_faulty : (words : List (List ℕ)) (known : WithBook) (flat : Flat) (parameters : List Variable) (given : StartFault)
     (found : SpecFault) (answer : NotAccepted) → flat ≡ known.book.flat → parameters ≡ known.spec.parameters.items
-    → given ≡ start_fault.Refused found → FailsAs (IsStartFault (code.start_of flat.signature parameters words)) given
+    → given ≡ start_fault.Refused found → FailsAs (IsStartFault (code.given_start_of flat.signature parameters words)) given
     → RefusesStarts known found answer
     → (whole : Resolved) (items : List ListedOperation) → KnowsBook whole items known
     → Faulty (IsStartFault (start_of whole.data_ whole.spec words)) (with_spec whole.read whole.data_ whole.spec) answer
@@ -104,7 +103,8 @@ valued_faulty words known flat parameters given found answer same shown refused 
     refused_there known found answer (IsStartFault (start_of whole.data_ whole.spec words)) refuses
     (subst (λ (start : Start). FailsAs (IsStartFault start) (start_fault.Refused found))
     (same_start whole items words known flat parameters knows same shown)
-    (subst (λ (f : StartFault). FailsAs (IsStartFault (code.start_of flat.signature parameters words)) f) refused is)) whole items knows
+    (subst (λ (f : StartFault). FailsAs (IsStartFault (code.given_start_of flat.signature parameters words)) f) refused is))
+    whole items knows
 
 -- ---- The first state
 
@@ -122,21 +122,12 @@ may_start whole items words known knows = record {
       subst (λ (d : Data). AreTermsOf d.signature (profiles_of known.values.items)) (sym knows.book_known.data_is) knows.profiles;
 }
 
--- normal forms of values are values
-normal_fitting : (data_ : Data) (canon : Term → Term) → IsCanon data_ canon → (sorts : List ℕ) (values : List Term)
-    → AreValues data_.signature sorts values → AreValues data_.signature sorts (map canon values)
-normal_fitting data_ canon is [] [] fit = tt
-normal_fitting data_ canon is [] (value ∷ values) fit = absurd fit
-normal_fitting data_ canon is (sort ∷ sorts) [] fit = absurd fit
-normal_fitting data_ canon is (sort ∷ sorts) (value ∷ values) fit =
-    (canon_ground data_ canon value sort is fit.0, normal_fitting data_ canon is sorts values fit.1)
-
 normal_fit : (known : WithBook) (values normal : List Sorted) → terms_of normal ≡ map (book_canon known.book) (terms_of values)
     → AreValues (data_of known.book.flat).signature (parameter_sorts known.spec.parameters.items) (terms_of values)
     → AreValues (data_of known.book.flat).signature (parameter_sorts known.spec.parameters.items) (terms_of normal)
 normal_fit known values normal are fit =
     subst (λ (ts : List Term). AreValues (data_of known.book.flat).signature (parameter_sorts known.spec.parameters.items) ts) (sym are)
-    (normal_fitting (data_of known.book.flat) (book_canon known.book) (book_is_canon known.book)
+    (canon_values (data_of known.book.flat) (book_canon known.book) (book_is_canon known.book)
     (parameter_sorts known.spec.parameters.items) (terms_of values) fit)
 
 pub starts : (valued : WithValues) (normal : List Sorted)

@@ -17,8 +17,8 @@ use Rattle.spec_acceptance.specs.Part.{goes_on, Part}
 use Rattle.spec_acceptance.specs.Doing.{Did}
 use Rattle.spec_acceptance.specs.declared.accepted.Accepted.{Accepted}
 
-abbrev pub asked_for : List ℕ → Option (List ℕ) → List (List ℕ) → Asked
-asked_for spec order values = record { spec = spec; order = order; values = values }
+abbrev pub asked_acceptance : List ℕ → Option (List ℕ) → List (List ℕ) → Asked
+asked_acceptance spec order values = record { spec = spec; order = order; values = values }
 
 -- It is what was accepted: the specification, which is over the data's signature, with its ranks; the data, which are well
 -- formed, with the precedence of the order's items and the confluent rules of the equations; and the closed state in which

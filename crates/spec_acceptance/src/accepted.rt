@@ -3,7 +3,7 @@
 ghost use Rattle.refusal_lines.specs.WordLimits.{are_within, words_of};
 ghost use Rattle.refusal_lines.specs.HandedOn.{shelf_state};
 ghost use Rattle.spec_acceptance.specs.Acceptance.{AcceptsText, IsAccepted};
-ghost use Rattle.spec_acceptance.specs.AcceptedView.{AcceptsWith, asked_for};
+ghost use Rattle.spec_acceptance.specs.AcceptedView.{AcceptsWith, asked_acceptance};
 ghost use Rattle.spec_acceptance.specs.Doing.{Failed};
 ghost use Rattle.std.specs.Prelude.{IsTrue, MatchResult, option_map};
 
@@ -53,11 +53,11 @@ impl Accepted {
         ensures { MatchResult result
             (AcceptsWith (shelf_state (F.texts shelf.old) (F.faults shelf.old) (F.calls shelf.old))
             (shelf_state (F.texts shelf.new) (F.faults shelf.new) (F.calls shelf.new))
-            (IsAccepted (asked_for spec.now (option_map (λ word. word.now) order.entry)
+            (IsAccepted (asked_acceptance spec.now (option_map (λ word. word.now) order.entry)
             (words_of values.now))))
             (Failed (shelf_state (F.texts shelf.old) (F.faults shelf.old) (F.calls shelf.old))
             (shelf_state (F.texts shelf.new) (F.faults shelf.new) (F.calls shelf.new))
-            (IsAccepted (asked_for spec.now (option_map (λ word. word.now) order.entry)
+            (IsAccepted (asked_acceptance spec.now (option_map (λ word. word.now) order.entry)
             (words_of values.now)))) }
     {
         let text = file(alloc, spec, shelf)?;

@@ -3,11 +3,11 @@
 ghost use Rattle.refusal_lines.specs.HandedOn.{IsSpecificationReading, shelf_state};
 ghost use Rattle.sort_terms.specs.EquationView.{data_of};
 ghost use Rattle.spec_acceptance.specs.Acceptance.{Acceptance, IsAccepted};
-ghost use Rattle.spec_acceptance.specs.AcceptedView.{asked_for};
+ghost use Rattle.spec_acceptance.specs.AcceptedView.{asked_acceptance};
 ghost use Rattle.spec_acceptance.specs.Again.{BeginsOver, IsOverSame, KeepsAccepted, StandsOver};
 ghost use Rattle.spec_acceptance.specs.Doing.{Failed};
 ghost use Rattle.std.specs.Prelude.{[], ℕ, IfOk, List, MatchResult, None};
-ghost use Rattle.syntax_trees.specs.TreeViews.{specification_of};
+ghost use Rattle.syntax_trees.specs.TreeViews.{written_specification_of};
 ghost use Rattle.syntax_trees.specs.WrittenDefinition.{WrittenSpecification};
 
 use crate::accepted::Accepted;
@@ -49,10 +49,10 @@ pub fn read_with_text<F: Shelf>(
     ensures { MatchResult result
         (KeepsAccepted (shelf_state (F.texts shelf.old) (F.faults shelf.old) (F.calls shelf.old))
         (shelf_state (F.texts shelf.new) (F.faults shelf.new) (F.calls shelf.new))
-        (asked_for spec.now None []))
+        (asked_acceptance spec.now None []))
         (Failed (shelf_state (F.texts shelf.old) (F.faults shelf.old) (F.calls shelf.old))
         (shelf_state (F.texts shelf.new) (F.faults shelf.new) (F.calls shelf.new))
-        (IsAccepted (asked_for spec.now None []))) }
+        (IsAccepted (asked_acceptance spec.now None []))) }
 {
     let text = file(alloc, spec, shelf)?;
     let accepted = Accepted::of_text(alloc, text.as_slice(), None, &[], shelf)?;
@@ -86,8 +86,8 @@ fn resolved_over(alloc: Global, text: &[u8], flat: &Flat) -> Result<Spec, NoMemo
 
 // The specification of the tree.
 fn resolved_tree(alloc: Global, tree: SpecText, flat: &Flat) -> Result<Spec, NoMemory>
-    requires { (text : List ℕ) × IsSpecificationReading 0 text (specification_of tree) }
-    ensures { IfOk result (StandsOver flat.now (specification_of tree)) }
+    requires { (text : List ℕ) × IsSpecificationReading 0 text (written_specification_of tree) }
+    ensures { IfOk result (StandsOver flat.now (written_specification_of tree)) }
 {
     let mut tree = tree;
     let made = without_types(alloc, &mut tree, flat);
@@ -97,8 +97,8 @@ fn resolved_tree(alloc: Global, tree: SpecText, flat: &Flat) -> Result<Spec, NoM
 
 // The same, whose types are taken out of it.
 fn without_types(alloc: Global, tree: &mut SpecText, flat: &Flat) -> Result<Spec, NoMemory>
-    requires { (text : List ℕ) × IsSpecificationReading 0 text (specification_of tree.old) }
-    ensures { IfOk result (StandsOver flat.now (specification_of tree.old)) }
+    requires { (text : List ℕ) × IsSpecificationReading 0 text (written_specification_of tree.old) }
+    ensures { IfOk result (StandsOver flat.now (written_specification_of tree.old)) }
 {
     tree.take_items(alloc)?;
     match resolve(alloc, tree, flat) {

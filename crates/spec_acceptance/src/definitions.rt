@@ -16,7 +16,7 @@ ghost use Rattle.spec_acceptance.specs.Known.{KnowsData, KnowsRanks, KnowsSpec, 
 ghost use Rattle.spec_acceptance.specs.Scopes.{Breaks, StandsFor, scopes_told};
 ghost use Rattle.std.specs.Prelude.{◌≡◌, ℕ, List, MatchResult};
 ghost use Rattle.syntax_trees.specs.TakenItems.{without_items};
-ghost use Rattle.syntax_trees.specs.TreeViews.{specification_of as written_specification};
+ghost use Rattle.syntax_trees.specs.TreeViews.{written_specification_of as written_specification};
 ghost use Rattle.syntax_trees.specs.WrittenDefinition.{WrittenSpecification};
 
 use crate::not_accepted::NotAccepted;

@@ -5,7 +5,7 @@ ghost use Rattle.spec_acceptance.specs.Acceptance.{FoundedBy, Founds, IsFounded}
 ghost use Rattle.spec_acceptance.specs.Doing.{Failed};
 ghost use Rattle.spec_acceptance.specs.Known.{FoundsWith};
 ghost use Rattle.std.specs.Prelude.{ℕ, List, MatchResult, option_map};
-ghost use Rattle.syntax_trees.specs.TreeViews.{specification_of};
+ghost use Rattle.syntax_trees.specs.TreeViews.{written_specification_of};
 
 use crate::books::{WithBook, opened};
 use crate::definitions::{agreed, ranked, resolved};
@@ -67,14 +67,15 @@ fn with_book<F: Shelf>(
     order: Option<&str>,
     shelf: &mut F,
 ) -> Result<WithBook, NotAccepted>
-    requires { (text : List ℕ) × IsSpecificationReading 0 text (specification_of tree.old) }
+    requires { (text : List ℕ) × IsSpecificationReading 0 text (written_specification_of tree.old) }
     ensures { MatchResult result
         (FoundsWith (shelf_state (F.texts shelf.old) (F.faults shelf.old) (F.calls shelf.old))
         (shelf_state (F.texts shelf.new) (F.faults shelf.new) (F.calls shelf.new))
-        (FoundedBy (option_map (λ word. word.now) order.entry) (specification_of tree.old)))
+        (FoundedBy (option_map (λ word. word.now) order.entry) (written_specification_of tree.old)))
         (Failed (shelf_state (F.texts shelf.old) (F.faults shelf.old) (F.calls shelf.old))
         (shelf_state (F.texts shelf.new) (F.faults shelf.new) (F.calls shelf.new))
-        (FoundedBy (option_map (λ word. word.now) order.entry) (specification_of tree.old))) }
+        (FoundedBy (option_map (λ word. word.now) order.entry)
+        (written_specification_of tree.old))) }
 {
     let items = tree.take_items(alloc)?;
     let gathered = types_of(alloc, items, shelf)?;

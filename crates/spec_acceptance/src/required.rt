@@ -8,7 +8,7 @@ ghost use Rattle.refusal_lines.specs.HandedOn.{
 };
 ghost use Rattle.sort_terms.specs.EquationView.{data_of};
 ghost use Rattle.spec_acceptance.specs.Acceptance.{AcceptsText, FoundedBy, Founds, IsAccepted};
-ghost use Rattle.spec_acceptance.specs.AcceptedView.{asked_for};
+ghost use Rattle.spec_acceptance.specs.AcceptedView.{asked_acceptance};
 ghost use Rattle.spec_acceptance.specs.Doing.{Failed, Faulty};
 ghost use Rattle.spec_acceptance.specs.Known.{KnowsData};
 ghost use Rattle.spec_acceptance.specs.Required.{
@@ -19,7 +19,7 @@ ghost use Rattle.spec_acceptance.specs.Required.{
 };
 ghost use Rattle.spec_acceptance.specs.Types.{HaveData, HaveFault, types_told};
 ghost use Rattle.std.specs.Prelude.{◌≡◌, [], ℕ, IfOk, List, MatchResult, None, OnOk, map};
-ghost use Rattle.syntax_trees.specs.TreeViews.{item_of, specification_of};
+ghost use Rattle.syntax_trees.specs.TreeViews.{item_of, written_specification_of};
 ghost use Rattle.type_definitions.specs.DeclaredTypes.{types_of as declared_types_of};
 
 use crate::accepted::Accepted;
@@ -68,10 +68,10 @@ pub fn read_with_requirements<F: Shelf>(
         (KeepsRequirements
         (shelf_state (F.texts shelf.old) (F.faults shelf.old) (F.calls shelf.old))
         (shelf_state (F.texts shelf.new) (F.faults shelf.new) (F.calls shelf.new))
-        (asked_for spec.now None []))
+        (asked_acceptance spec.now None []))
         (Failed (shelf_state (F.texts shelf.old) (F.faults shelf.old) (F.calls shelf.old))
         (shelf_state (F.texts shelf.new) (F.faults shelf.new) (F.calls shelf.new))
-        (IsAccepted (asked_for spec.now None []))) }
+        (IsAccepted (asked_acceptance spec.now None []))) }
 {
     let mut required = Required {
         libraries: Vec::new(alloc),
@@ -92,10 +92,10 @@ fn accepted_requiring<F: Shelf>(
         (λ accepted. AcceptsRequiring
         (shelf_state (F.texts shelf.old) (F.faults shelf.old) (F.calls shelf.old))
         (shelf_state (F.texts shelf.new) (F.faults shelf.new) (F.calls shelf.new))
-        (IsAccepted (asked_for spec.now None [])) accepted required.new)
+        (IsAccepted (asked_acceptance spec.now None [])) accepted required.new)
         (Failed (shelf_state (F.texts shelf.old) (F.faults shelf.old) (F.calls shelf.old))
         (shelf_state (F.texts shelf.new) (F.faults shelf.new) (F.calls shelf.new))
-        (IsAccepted (asked_for spec.now None []))) }
+        (IsAccepted (asked_acceptance spec.now None []))) }
 {
     let text = file(alloc, spec, shelf)?;
     text_requiring(alloc, text.as_slice(), shelf, required)
@@ -151,15 +151,15 @@ fn tree_requiring<F: Shelf>(
     shelf: &mut F,
     required: &mut Required,
 ) -> Result<WithBook, NotAccepted>
-    requires { (text : List ℕ) × IsSpecificationReading 0 text (specification_of tree.old) }
+    requires { (text : List ℕ) × IsSpecificationReading 0 text (written_specification_of tree.old) }
     ensures { MatchResult result
         (λ made. RequiresWith
         (shelf_state (F.texts shelf.old) (F.faults shelf.old) (F.calls shelf.old))
         (shelf_state (F.texts shelf.new) (F.faults shelf.new) (F.calls shelf.new))
-        (FoundedBy None (specification_of tree.old)) made required.new)
+        (FoundedBy None (written_specification_of tree.old)) made required.new)
         (Failed (shelf_state (F.texts shelf.old) (F.faults shelf.old) (F.calls shelf.old))
         (shelf_state (F.texts shelf.new) (F.faults shelf.new) (F.calls shelf.new))
-        (FoundedBy None (specification_of tree.old))) }
+        (FoundedBy None (written_specification_of tree.old))) }
 {
     let items = tree.take_items(alloc)?;
     let gathered = types_of(alloc, items, shelf)?;

@@ -14,7 +14,7 @@ ghost use Rattle.spec_acceptance.specs.Known.{KnowsRanks, OrdersWith, ReadsItems
 ghost use Rattle.spec_acceptance.specs.Part.{goes_on};
 ghost use Rattle.spec_acceptance.specs.Texts.{GathersTypes, Orders, text_told};
 ghost use Rattle.std.specs.Prelude.{MatchResult, map, option_map};
-ghost use Rattle.syntax_trees.specs.TreeViews.{item_of, specification_of};
+ghost use Rattle.syntax_trees.specs.TreeViews.{item_of, written_specification_of};
 
 use crate::files::file;
 use crate::not_accepted::NotAccepted;
@@ -27,7 +27,8 @@ use syntax_trees::{ItemText, SpecText};
 
 /// Reads the specification.
 pub fn specification(alloc: Global, text: &[u8]) -> Result<SpecText, NotAccepted>
-    ensures { MatchResult result (λ tree. IsSpecificationReading 0 text.now (specification_of tree))
+    ensures { MatchResult result
+        (λ tree. IsSpecificationReading 0 text.now (written_specification_of tree))
         (Faulty (TextIsMisread IsSpecificationFault 0 text.now) (text_told at_first 0)) }
 {
     match read_spec(alloc, text, 0) {

@@ -4,7 +4,7 @@ use Rattle.std.specs.Prelude.{◌==◌}
 use Rattle.std.specs.List.{prefix_len, list_all}
 use Rattle.std.specs.Str.{bytes_eq}
 use Rattle.std.specs.Char.{is_ascii_alphanumeric}
-use Rattle.std.proofs.lemmas.Bool.{and_parts}
+use Rattle.std.proofs.lemmas.Bool.{and_parts, and_from}
 use Rattle.std.proofs.lemmas.Bool.Decides.{Decides-eqb}
 use Rattle.lotos_base.specs.Name.{folded}
 use Rattle.lotos_lexer.specs.declared.kinds.TheConstants.{NAME, SIGN_NAME, GATES_OPEN, GATES_CLOSE, CHOICE_SIGN, RIGHT_BRACKET}
@@ -12,7 +12,7 @@ use Rattle.lotos_lexer.specs.Bytes.{is_sign}
 use Rattle.lotos_lexer.specs.Spellings.{Spelling, reserved_words, reserved_runs}
 use Rattle.lotos_lexer.specs.Lexemes.{underscore_before, word_length, kind_in, word_kind_in}
 use Rattle.specification_laws.specs.LongestTokens.{IsToken, a_word, a_digit_name, a_run, a_fixed, closing_gates}
-use Rattle.specification_laws.proofs.WordLemmas.{word_within}
+use Rattle.lotos_lexer.proofs.Spans.{word_length-le}
 use Rattle.specification_laws.proofs.LongestLemmas.{all_fixed, later_row, sign_fails}
 
 -- the byte is no `]`
@@ -69,10 +69,6 @@ run_kind (row ∷ rows) spelled all =
     by true here rest = here
     by false here rest = rest
 
-both : (one other : Bool) → one ≡ true → other ≡ true → (one && other) ≡ true
-both true other h k = k
-both false other h k = h
-
 -- a byte that passes a test which `]` fails
 other_byte : (test : ℕ → Bool) → test 93 ≡ false → (byte : ℕ) → test byte ≡ true → is_no_bracket byte ≡ true
 other_byte test never byte is = by (byte == 93) refl
@@ -84,18 +80,18 @@ other_byte test never byte is = by (byte == 93) refl
 word_bytes : (bytes : List ℕ) → word_length bytes ≡ length bytes → list_all is_no_bracket bytes ≡ true
 word_bytes [] whole = refl
 word_bytes (byte ∷ rest) whole =
-    by (is_ascii_alphanumeric byte) refl (byte == 95) refl (word_length rest) whole (word_within rest) (word_bytes rest)
+    by (is_ascii_alphanumeric byte) refl (byte == 95) refl (word_length rest) whole (word_length-le rest) (word_bytes rest)
   where
     by : (letter : Bool) → is_ascii_alphanumeric byte ≡ letter → (line : Bool) → (byte == 95) ≡ line → (n : ℕ)
         → (if letter then suc n else if line then underscore_before n else 0) ≡ suc (length rest) → n ≤ length rest
         → (n ≡ length rest → list_all is_no_bracket rest ≡ true)
         → (is_no_bracket byte && list_all is_no_bracket rest) ≡ true
     by true letter line is_line n is within more =
-        both (is_no_bracket byte) (list_all is_no_bracket rest) (other_byte is_ascii_alphanumeric refl byte letter)
+        and_from (is_no_bracket byte) (list_all is_no_bracket rest) (other_byte is_ascii_alphanumeric refl byte letter)
         (more (let e = is in omega (arith, e)))
     by false letter true is_line zero is within more = absurd (cc is)
     by false letter true is_line (suc n) is within more =
-        both (is_no_bracket byte) (list_all is_no_bracket rest) (other_byte (λ b. b == 95) refl byte is_line)
+        and_from (is_no_bracket byte) (list_all is_no_bracket rest) (other_byte (λ b. b == 95) refl byte is_line)
         (more (let e = is in omega (arith, e)))
     by false letter false is_line n is within more = absurd (cc is)
 
@@ -107,7 +103,7 @@ run_bytes (byte ∷ rest) whole = by (is_sign byte) refl whole (run_bytes rest)
         → (prefix_len is_sign rest ≡ length rest → list_all is_no_bracket rest ≡ true)
         → (is_no_bracket byte && list_all is_no_bracket rest) ≡ true
     by true sign is more =
-        both (is_no_bracket byte) (list_all is_no_bracket rest)
+        and_from (is_no_bracket byte) (list_all is_no_bracket rest)
         (ap not (sign_fails (λ b. b == 93) refl byte sign)) (more (let e = is in omega (arith, e)))
     by false sign is more = absurd (cc is)
 

@@ -1,6 +1,6 @@
 -- A comment ends with the first `*)` behind its `(*`.
 use Rattle.std.proofs.Common.{◌≡◌, ◌≢◌, ℕ, suc, Bool, true, false, if◌then◌else◌, List, [], ◌∷◌, ◌++◌, take, drop, length, codes, Option, None, Some, option_map, refl, ap, sym, ◌∙◌, arith}
-use Rattle.std.proofs.lemmas.List.{length-append, take-append-drop}
+use Rattle.std.proofs.lemmas.List.{length-append, take-append-drop, nil_from_length}
 use Rattle.lotos_lexer.specs.Bytes.{begins_with}
 use Rattle.lotos_lexer.specs.Pieces.{close_at}
 use Rattle.specification_laws.proofs.LongestLemmas.{fails, begins_so, so_begins}
@@ -9,15 +9,11 @@ use Rattle.specification_laws.proofs.LongestLemmas.{fails, begins_so, so_begins}
 abbrev pub IsFirst : List ℕ → Type 0
 IsFirst inner = (front back : List ℕ) → inner ++ codes "*)" ≡ front ++ (codes "*)" ++ back) → back ≡ []
 
-no_length : (bytes : List ℕ) → length bytes ≡ 0 → bytes ≡ []
-no_length [] is = refl
-no_length (byte ∷ bytes) is = absurd (cc is)
-
 first_none : IsFirst []
 first_none front back is =
     let long = ap (λ (bs : List ℕ). length bs) is in
     let parts = length-append front (codes "*)" ++ back) in
-    no_length back (omega (arith, long, parts))
+    nil_from_length back (omega (arith, long, parts))
 
 first_less : (byte : ℕ) (inner : List ℕ) → IsFirst (byte ∷ inner) → IsFirst inner
 first_less byte inner first front back is = first (byte ∷ front) back (ap (λ (bs : List ℕ). byte ∷ bs) is)

@@ -66,7 +66,7 @@ cut_blank number before rest =
 
 -- ---- The bytes of a token
 
-offset_behind : (byte : ℕ) (position : Position) → (behind byte position).offset ≡ position.offset + 1
+pub offset_behind : (byte : ℕ) (position : Position) → (behind byte position).offset ≡ position.offset + 1
 offset_behind byte position = by (byte == 10)
   where
     by : (feed : Bool) → (if feed then at_next_line position else at_next_column position).offset ≡ position.offset + 1

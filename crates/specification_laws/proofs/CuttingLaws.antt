@@ -15,7 +15,7 @@ use Rattle.lotos_lexer.specs.Pieces.{piece_at}
 use Rattle.lotos_lexer.specs.Tokens.{Lexed, Tokens, BadByte, OpenComment, with_token, behind, behind_all, token_at, list_open_behind, cut}
 use Rattle.lotos_lexer.proofs.CuttingLemmas.{cut-blank, cut-comment, cut-token, cut-unclosed, cut-nothing}
 use Rattle.specification_laws.specs.LongestTokens.{IsToken, a_word, a_digit_name, a_run, a_fixed, closing_gates}
-use Rattle.specification_laws.specs.Cuttings.{Part, a_blank, a_comment, a_token, part_bytes, all_bytes, TellsOpen, HasOpenGates, Stands, Ending, at_the_end, at_a_bad_byte, at_an_open_comment, Ends, IsCutting, TextsHaveOneCutting, line_feeds, on_line, place_behind, tokens_behind, lexed_as, TokensAreOfCuttings, ClosingSignsClose}
+use Rattle.specification_laws.specs.Cuttings.{TextPart, a_blank, a_comment, a_token, part_bytes, all_bytes, TellsOpen, HasOpenGates, Stands, Ending, at_the_end, at_a_bad_byte, at_an_open_comment, TextEnds, IsCutting, TextsHaveOneCutting, line_feeds, on_line, place_behind, tokens_behind, lexed_as, TokensAreOfCuttings, ClosingSignsClose}
 use Rattle.specification_laws.proofs.LongestLemmas.{fails, all_fixed, later_row, begins_so}
 use Rattle.specification_laws.proofs.CommentLemmas.{rest_of}
 use Rattle.specification_laws.proofs.PartLemmas.{piece_of, stands_piece, bad_piece, open_piece, Begins, with_part, with_fault, begins, stands_long, same_part}
@@ -24,24 +24,24 @@ use Rattle.specification_laws.proofs.OpenLemmas.{open_after, told_behind}
 -- ---- Cuttings from a place on
 
 -- what stands behind some parts is cut into these
-record IsCutFrom (before : List Part) (text : List ℕ) (parts : List Part) (rest : List ℕ) (ending : Ending) : Type 0 where
+record IsCutFrom (before : List TextPart) (text : List ℕ) (parts : List TextPart) (rest : List ℕ) (ending : Ending) : Type 0 where
   pub made_up : text ≡ all_bytes parts ++ rest
-  pub each : (inner : List Part) (part : Part) (after : List Part) → parts ≡ inner ++ (part ∷ after)
+  pub each : (inner : List TextPart) (part : TextPart) (after : List TextPart) → parts ≡ inner ++ (part ∷ after)
       → Stands (before ++ inner) part (all_bytes after ++ rest)
-  pub ends : Ends (before ++ parts) rest ending
+  pub ends : TextEnds (before ++ parts) rest ending
 
-whole_cutting : (text : List ℕ) (parts : List Part) (rest : List ℕ) (ending : Ending) → IsCutting text parts rest ending
+whole_cutting : (text : List ℕ) (parts : List TextPart) (rest : List ℕ) (ending : Ending) → IsCutting text parts rest ending
     → IsCutFrom [] text parts rest ending
 whole_cutting text parts rest ending is = record { made_up = is.made_up; each = is.each; ends = is.ends }
 
-cutting_whole : (text : List ℕ) (parts : List Part) (rest : List ℕ) (ending : Ending) → IsCutFrom [] text parts rest ending
+cutting_whole : (text : List ℕ) (parts : List TextPart) (rest : List ℕ) (ending : Ending) → IsCutFrom [] text parts rest ending
     → IsCutting text parts rest ending
 cutting_whole text parts rest ending is = record { made_up = is.made_up; each = is.each; ends = is.ends }
 
-module _ (before : List Part) (text : List ℕ) (part : Part) (parts : List Part) (rest : List ℕ) (ending : Ending) where
+module _ (before : List TextPart) (text : List ℕ) (part : TextPart) (parts : List TextPart) (rest : List ℕ) (ending : Ending) where
   first_stands : IsCutFrom before text (part ∷ parts) rest ending → Stands before part (all_bytes parts ++ rest)
   first_stands is =
-      subst (λ (ps : List Part). Stands ps part (all_bytes parts ++ rest)) (append-nil before) (is.each [] part parts refl)
+      subst (λ (ps : List TextPart). Stands ps part (all_bytes parts ++ rest)) (append-nil before) (is.each [] part parts refl)
 
   first_made : IsCutFrom before text (part ∷ parts) rest ending → text ≡ part_bytes part ++ (all_bytes parts ++ rest)
   first_made is = is.made_up ∙ append_assoc (part_bytes part) (all_bytes parts) rest
@@ -50,9 +50,9 @@ module _ (before : List Part) (text : List ℕ) (part : Part) (parts : List Part
       → IsCutFrom (before ++ (part ∷ [])) (all_bytes parts ++ rest) parts rest ending
   later_cut is = record {
     made_up = refl;
-    each = λ inner one after same. subst (λ (ps : List Part). Stands ps one (all_bytes after ++ rest))
-        (sym (append_assoc before (part ∷ []) inner)) (is.each (part ∷ inner) one after (ap (λ (ps : List Part). part ∷ ps) same));
-    ends = subst (λ (ps : List Part). Ends ps rest ending) (sym (append_assoc before (part ∷ []) parts)) is.ends;
+    each = λ inner one after same. subst (λ (ps : List TextPart). Stands ps one (all_bytes after ++ rest))
+        (sym (append_assoc before (part ∷ []) inner)) (is.each (part ∷ inner) one after (ap (λ (ps : List TextPart). part ∷ ps) same));
+    ends = subst (λ (ps : List TextPart). TextEnds ps rest ending) (sym (append_assoc before (part ∷ []) parts)) is.ends;
   }
 
   cut_more : text ≡ part_bytes part ++ (all_bytes parts ++ rest) → Stands before part (all_bytes parts ++ rest)
@@ -61,41 +61,41 @@ module _ (before : List Part) (text : List ℕ) (part : Part) (parts : List Part
   cut_more made stands later = record {
     made_up = made ∙ sym (append_assoc (part_bytes part) (all_bytes parts) rest);
     each = each;
-    ends = subst (λ (ps : List Part). Ends ps rest ending) (append_assoc before (part ∷ []) parts) later.ends;
+    ends = subst (λ (ps : List TextPart). TextEnds ps rest ending) (append_assoc before (part ∷ []) parts) later.ends;
   }
     where
-      rest_same : (one other : Part) (ours others : List Part) → one ∷ ours ≡ other ∷ others → ours ≡ others
+      rest_same : (one other : TextPart) (ours others : List TextPart) → one ∷ ours ≡ other ∷ others → ours ≡ others
       rest_same one other ours others same = cc same
 
-      first_same : (one other : Part) (ours others : List Part) → one ∷ ours ≡ other ∷ others → one ≡ other
+      first_same : (one other : TextPart) (ours others : List TextPart) → one ∷ ours ≡ other ∷ others → one ≡ other
       first_same one other ours others same = cc same
 
-      each : (inner : List Part) (one : Part) (after : List Part) → part ∷ parts ≡ inner ++ (one ∷ after)
+      each : (inner : List TextPart) (one : TextPart) (after : List TextPart) → part ∷ parts ≡ inner ++ (one ∷ after)
           → Stands (before ++ inner) one (all_bytes after ++ rest)
       each [] one after same =
-          subst (λ (ps : List Part). Stands ps one (all_bytes after ++ rest)) (sym (append-nil before))
-          (subst (λ (ps : List Part). Stands before one (all_bytes ps ++ rest)) (rest_same part one parts after same)
-          (subst (λ (p : Part). Stands before p (all_bytes parts ++ rest)) (first_same part one parts after same) stands))
+          subst (λ (ps : List TextPart). Stands ps one (all_bytes after ++ rest)) (sym (append-nil before))
+          (subst (λ (ps : List TextPart). Stands before one (all_bytes ps ++ rest)) (rest_same part one parts after same)
+          (subst (λ (p : TextPart). Stands before p (all_bytes parts ++ rest)) (first_same part one parts after same) stands))
       each (i ∷ inner) one after same =
           let tail = rest_same part i parts (inner ++ (one ∷ after)) same in
           let head = first_same part i parts (inner ++ (one ∷ after)) same in
-          subst (λ (ps : List Part). Stands ps one (all_bytes after ++ rest)) (append_assoc before (part ∷ []) inner
-          ∙ ap (λ (p : Part). before ++ (p ∷ inner)) head)
+          subst (λ (ps : List TextPart). Stands ps one (all_bytes after ++ rest)) (append_assoc before (part ∷ []) inner
+          ∙ ap (λ (p : TextPart). before ++ (p ∷ inner)) head)
           (later.each inner one after tail)
 
 -- ---- Each text has a cutting
 
-record HasCutting (before : List Part) (text : List ℕ) : Type 0 where
-  pub parts : List Part
+record HasCutting (before : List TextPart) (text : List ℕ) : Type 0 where
+  pub parts : List TextPart
   pub rest : List ℕ
   pub ending : Ending
   pub cutting : IsCutFrom before text parts rest ending
 
-never_in : (part : Part) (inner after : List Part) → [] ≡ inner ++ (part ∷ after) → ⊥
+never_in : (part : TextPart) (inner after : List TextPart) → [] ≡ inner ++ (part ∷ after) → ⊥
 never_in part [] after same = cc same
 never_in part (i ∷ inner) after same = cc same
 
-has_cutting : (most : ℕ) (open_list : Bool) (before : List Part) (text : List ℕ) → length text ≤ most → TellsOpen open_list before
+has_cutting : (most : ℕ) (open_list : Bool) (before : List TextPart) (text : List ℕ) → length text ≤ most → TellsOpen open_list before
     → HasCutting before text
 has_cutting zero open_list before [] few told = record {
   parts = [];
@@ -108,7 +108,7 @@ has_cutting (suc most) open_list before text few told =
     by (begins open_list before text told) (λ opened parts bytes less is. has_cutting most opened parts bytes less is)
   where
     by : Begins open_list before text
-        → ((opened : Bool) (parts : List Part) (bytes : List ℕ) → length bytes ≤ most → TellsOpen opened parts → HasCutting parts bytes)
+        → ((opened : Bool) (parts : List TextPart) (bytes : List ℕ) → length bytes ≤ most → TellsOpen opened parts → HasCutting parts bytes)
         → HasCutting before text
     by (with_fault ending ends) below = record {
       parts = [];
@@ -117,7 +117,7 @@ has_cutting (suc most) open_list before text few told =
       cutting = record {
         made_up = refl;
         each = λ inner part after same. absurd (never_in part inner after same);
-        ends = subst (λ (ps : List Part). Ends ps text ending) (sym (append-nil before)) ends;
+        ends = subst (λ (ps : List TextPart). TextEnds ps text ending) (sym (append-nil before)) ends;
       };
     }
     by (with_part part bytes made stands) below =
@@ -139,19 +139,19 @@ has_cutting (suc most) open_list before text few told =
 
 -- ---- And no other
 
-part_not_end : (part : Part) → piece_of part ≡ piece.Nothing → ⊥
+part_not_end : (part : TextPart) → piece_of part ≡ piece.Nothing → ⊥
 part_not_end (a_blank byte) is = cc is
 part_not_end (a_comment bytes) is = cc is
 part_not_end (a_token kind bytes) is = cc is
 
-part_not_open : (part : Part) → piece_of part ≡ piece.Unclosed → ⊥
+part_not_open : (part : TextPart) → piece_of part ≡ piece.Unclosed → ⊥
 part_not_open (a_blank byte) is = cc is
 part_not_open (a_comment bytes) is = cc is
 part_not_open (a_token kind bytes) is = cc is
 
 -- where a part stands, the text has not ended
-not_ended : (open_list : Bool) (before : List Part) (part : Part) (rest : List ℕ) (ending : Ending) → TellsOpen open_list before
-    → Stands before part rest → Ends before (part_bytes part ++ rest) ending → ⊥
+not_ended : (open_list : Bool) (before : List TextPart) (part : TextPart) (rest : List ℕ) (ending : Ending) → TellsOpen open_list before
+    → Stands before part rest → TextEnds before (part_bytes part ++ rest) ending → ⊥
 not_ended open_list before part rest at_the_end told stands ends =
     let long = stands_long before part rest stands in
     let same = ap (λ (bs : List ℕ). length bs) ends in
@@ -164,9 +164,9 @@ not_ended open_list before part rest at_an_open_comment told stands ends =
     (sym (stands_piece open_list before part rest told stands) ∙ open_piece open_list (part_bytes part ++ rest) ends)
 
 -- a text ends in one way
-one_end : (open_list : Bool) (before : List Part) (text : List ℕ) (ending end : Ending) → TellsOpen open_list before
-    → Ends before text ending
-    → Ends before text end → end ≡ ending
+one_end : (open_list : Bool) (before : List TextPart) (text : List ℕ) (ending end : Ending) → TellsOpen open_list before
+    → TextEnds before text ending
+    → TextEnds before text end → end ≡ ending
 one_end open_list before text at_the_end at_the_end told ends also = refl
 one_end open_list before text at_the_end at_a_bad_byte told ends also = absurd (also.some ends)
 one_end open_list before text at_the_end at_an_open_comment told ends also = absurd (let e = also.made_up in cc (e, ends))
@@ -179,28 +179,28 @@ one_end open_list before text at_an_open_comment at_a_bad_byte told ends also =
     absurd (let one = bad_piece open_list before text told also in let other = open_piece open_list text ends in cc (one, other))
 one_end open_list before text at_an_open_comment at_an_open_comment told ends also = refl
 
-abbrev AreSame : List Part → List ℕ → Ending → List Part → List ℕ → Ending → Type 0
+abbrev AreSame : List TextPart → List ℕ → Ending → List TextPart → List ℕ → Ending → Type 0
 AreSame parts rest ending others left end = (others ≡ parts) × (left ≡ rest) × (end ≡ ending)
 
-one_cutting : (open_list : Bool) (before : List Part) (text : List ℕ) (parts : List Part) (rest : List ℕ) (ending : Ending)
-    (others : List Part) (left : List ℕ) (end : Ending) → TellsOpen open_list before → IsCutFrom before text parts rest ending
+one_cutting : (open_list : Bool) (before : List TextPart) (text : List ℕ) (parts : List TextPart) (rest : List ℕ) (ending : Ending)
+    (others : List TextPart) (left : List ℕ) (end : Ending) → TellsOpen open_list before → IsCutFrom before text parts rest ending
     → IsCutFrom before text others left end → AreSame parts rest ending others left end
 one_cutting open_list before text [] rest ending [] left end told is also =
     let nil = append-nil before in
     let same : left ≡ rest = sym also.made_up ∙ is.made_up in (
       refl,
       same,
-      one_end open_list before rest ending end told (subst (λ (ps : List Part). Ends ps rest ending) nil is.ends)
-          (subst (λ (bs : List ℕ). Ends before bs end) same (subst (λ (ps : List Part). Ends ps left end) nil also.ends)),
+      one_end open_list before rest ending end told (subst (λ (ps : List TextPart). TextEnds ps rest ending) nil is.ends)
+          (subst (λ (bs : List ℕ). TextEnds before bs end) same (subst (λ (ps : List TextPart). TextEnds ps left end) nil also.ends)),
     )
 one_cutting open_list before text [] rest ending (other ∷ others) left end told is also =
     absurd (not_ended open_list before other (all_bytes others ++ left) ending told (first_stands before text other others left end also)
-    (subst (λ (bs : List ℕ). Ends before bs ending) (sym is.made_up ∙ first_made before text other others left end also)
-    (subst (λ (ps : List Part). Ends ps rest ending) (append-nil before) is.ends)))
+    (subst (λ (bs : List ℕ). TextEnds before bs ending) (sym is.made_up ∙ first_made before text other others left end also)
+    (subst (λ (ps : List TextPart). TextEnds ps rest ending) (append-nil before) is.ends)))
 one_cutting open_list before text (part ∷ parts) rest ending [] left end told is also =
     absurd (not_ended open_list before part (all_bytes parts ++ rest) end told (first_stands before text part parts rest ending is)
-    (subst (λ (bs : List ℕ). Ends before bs end) (sym also.made_up ∙ first_made before text part parts rest ending is)
-    (subst (λ (ps : List Part). Ends ps left end) (append-nil before) also.ends)))
+    (subst (λ (bs : List ℕ). TextEnds before bs end) (sym also.made_up ∙ first_made before text part parts rest ending is)
+    (subst (λ (ps : List TextPart). TextEnds ps left end) (append-nil before) also.ends)))
 one_cutting open_list before text (part ∷ parts) rest ending (other ∷ others) left end told is also =
     let stands = first_stands before text part parts rest ending is in
     let made = first_made before text part parts rest ending is in
@@ -214,10 +214,10 @@ one_cutting open_list before text (part ∷ parts) rest ending (other ∷ others
     let later' = later_cut before text other others left end also in
     let moved : IsCutFrom (before ++ (part ∷ [])) (all_bytes parts ++ rest) others left end =
     subst (λ (bs : List ℕ). IsCutFrom (before ++ (part ∷ [])) bs others left end) same.1
-    (subst (λ (p : Part). IsCutFrom (before ++ (p ∷ [])) (all_bytes others ++ left) others left end) same.0 later') in
+    (subst (λ (p : TextPart). IsCutFrom (before ++ (p ∷ [])) (all_bytes others ++ left) others left end) same.0 later') in
     let more = one_cutting (open_after part open_list) (before ++ (part ∷ [])) (all_bytes parts ++ rest) parts rest ending others left end
     (told_behind open_list before part (all_bytes parts ++ rest) told stands) later moved in
-    (ap (λ (p : Part). p ∷ others) same.0 ∙ ap (λ (ps : List Part). part ∷ ps) more.0, more.1, more.2)
+    (ap (λ (p : TextPart). p ∷ others) same.0 ∙ ap (λ (ps : List TextPart). part ∷ ps) more.0, more.1, more.2)
 
 nothing_open : TellsOpen false []
 nothing_open opened = never_in _ opened.before opened.after opened.opened
@@ -302,13 +302,13 @@ more_behind bytes (byte ∷ more) =
 -- ---- The tokens are those of the cutting
 
 -- the tokens of parts that stand behind these bytes, or the fault behind them
-abbrev lexed_from : ℕ → List ℕ → List Part → Ending → Lexed
+abbrev lexed_from : ℕ → List ℕ → List TextPart → Ending → Lexed
 lexed_from number bytes parts at_the_end = Tokens (tokens_behind number bytes parts)
 lexed_from number bytes parts at_a_bad_byte = BadByte (place_behind number (bytes ++ all_bytes parts))
 lexed_from number bytes parts at_an_open_comment = OpenComment (place_behind number (bytes ++ all_bytes parts))
 
 module _ (number : ℕ) (bytes : List ℕ) where
-  from_blank : (byte : ℕ) (parts : List Part) (ending : Ending)
+  from_blank : (byte : ℕ) (parts : List TextPart) (ending : Ending)
       → lexed_from number (bytes ++ byte ∷ []) parts ending ≡ lexed_from number bytes (a_blank byte ∷ parts) ending
   from_blank byte parts at_the_end = refl
   from_blank byte parts at_a_bad_byte =
@@ -316,7 +316,7 @@ module _ (number : ℕ) (bytes : List ℕ) where
   from_blank byte parts at_an_open_comment =
       ap (λ (bs : List ℕ). OpenComment (place_behind number bs)) (append_assoc bytes (byte ∷ []) (all_bytes parts))
 
-  from_comment : (inside : List ℕ) (parts : List Part) (ending : Ending)
+  from_comment : (inside : List ℕ) (parts : List TextPart) (ending : Ending)
       → lexed_from number (bytes ++ inside) parts ending ≡ lexed_from number bytes (a_comment inside ∷ parts) ending
   from_comment inside parts at_the_end = refl
   from_comment inside parts at_a_bad_byte =
@@ -324,7 +324,7 @@ module _ (number : ℕ) (bytes : List ℕ) where
   from_comment inside parts at_an_open_comment =
       ap (λ (bs : List ℕ). OpenComment (place_behind number bs)) (append_assoc bytes inside (all_bytes parts))
 
-  from_token : (kind : ℕ) (spelled : List ℕ) (parts : List Part) (ending : Ending)
+  from_token : (kind : ℕ) (spelled : List ℕ) (parts : List TextPart) (ending : Ending)
       → with_token (token_at number (position_behind bytes) (lexeme_of kind (length spelled)))
       (lexed_from number (bytes ++ spelled) parts ending)
       ≡ lexed_from number bytes (a_token kind spelled ∷ parts) ending
@@ -335,7 +335,8 @@ module _ (number : ℕ) (bytes : List ℕ) where
       ap (λ (bs : List ℕ). OpenComment (place_behind number bs)) (append_assoc bytes spelled (all_bytes parts))
 
   -- where the parts end, so does the lexer
-  end_cut : (open_list : Bool) (before : List Part) (rest : List ℕ) (ending : Ending) → TellsOpen open_list before → Ends before rest ending
+  end_cut : (open_list : Bool) (before : List TextPart) (rest : List ℕ) (ending : Ending) → TellsOpen open_list before
+      → TextEnds before rest ending
       → cut number 0 open_list (position_behind bytes) rest ≡ lexed_from number bytes [] ending
   end_cut open_list before rest at_the_end told ends = ap (cut number 0 open_list (position_behind bytes)) ends
   end_cut open_list before rest at_a_bad_byte told ends =
@@ -355,7 +356,7 @@ module _ (number : ℕ) (bytes : List ℕ) where
           let all = length-append (codes "(*") ends.inner in omega (arith, same, all)
 
   -- the lexer goes on behind a part
-  part_cut : (open_list : Bool) (before : List Part) (part : Part) (rest : List ℕ) (parts : List Part) (ending : Ending)
+  part_cut : (open_list : Bool) (before : List TextPart) (part : TextPart) (rest : List ℕ) (parts : List TextPart) (ending : Ending)
       → TellsOpen open_list before → Stands before part rest
       → cut number 0 (open_after part open_list) (position_behind (bytes ++ part_bytes part)) rest
       ≡ lexed_from number (bytes ++ part_bytes part) parts ending
@@ -373,7 +374,7 @@ module _ (number : ℕ) (bytes : List ℕ) where
           ∙ (ap (cut number 0 opened (behind_all front (position_behind bytes))) (drop-append_seam front rest)
           ∙ ap (λ (p : Position). cut number 0 opened p rest) (more_behind bytes front))
 
-      by : (part : Part) → Stands before part rest → IsSpan (length (part_bytes part)) (part_bytes part ++ rest)
+      by : (part : TextPart) → Stands before part rest → IsSpan (length (part_bytes part)) (part_bytes part ++ rest)
           → piece_at open_list (part_bytes part ++ rest) ≡ piece_of part
           → cut number 0 (open_after part open_list) (position_behind (bytes ++ part_bytes part)) rest
           ≡ lexed_from number (bytes ++ part_bytes part) parts ending
@@ -390,13 +391,13 @@ module _ (number : ℕ) (bytes : List ℕ) where
           (moved (list_open_behind kind open_list) spelled ∙ later)
           ∙ from_token kind spelled parts ending)
 
-cut_from : (number : ℕ) (bytes : List ℕ) (open_list : Bool) (before : List Part) (text : List ℕ) (parts : List Part) (rest : List ℕ)
+cut_from : (number : ℕ) (bytes : List ℕ) (open_list : Bool) (before : List TextPart) (text : List ℕ) (parts : List TextPart) (rest : List ℕ)
     (ending : Ending) → TellsOpen open_list before → IsCutFrom before text parts rest ending
     → cut number 0 open_list (position_behind bytes) text ≡ lexed_from number bytes parts ending
 cut_from number bytes open_list before text [] rest ending told is =
     ap (cut number 0 open_list (position_behind bytes)) is.made_up
     ∙ end_cut number bytes open_list before rest ending told
-    (subst (λ (ps : List Part). Ends ps rest ending) (append-nil before) is.ends)
+    (subst (λ (ps : List TextPart). TextEnds ps rest ending) (append-nil before) is.ends)
 cut_from number bytes open_list before text (part ∷ parts) rest ending told is =
     let stands = first_stands before text part parts rest ending is in
     let later = later_cut before text part parts rest ending is in
@@ -442,7 +443,7 @@ closing_signs_close text parts rest ending is before part after same = record { 
 
     only : part ≡ a_token GATES_CLOSE (codes "]|") → HasOpenGates before
     only closes =
-        let here = subst (λ (p : Part). Stands before p bytes) closes stands in
+        let here = subst (λ (p : TextPart). Stands before p bytes) closes stands in
         subst (λ (o : Bool). TellsOpen o before)
         (closing_only here.open_list GATES_CLOSE (codes "]|") refl refl here.longest.token) here.told
 

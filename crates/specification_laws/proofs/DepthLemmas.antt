@@ -4,7 +4,7 @@ use Rattle.std.specs.Prelude.{Some, None, max, nat_lt, cond, slice_get}
 use Rattle.std.proofs.lemmas.Bool.{ltb-true}
 use Rattle.lotos_base.specs.Equation.{Place, Variable}
 use Rattle.lotos_base.specs.Signature.{Signature, Form, prefix_form, infix_form}
-use Rattle.lotos_base.specs.Term.{Term, Terms, variable, node, no_terms, term_then, terms_of}
+use Rattle.lotos_base.specs.Term.{Term, Terms, variable, node, no_terms, term_then, argument_list_of}
 use Rattle.lotos_base.specs.WrittenTerm.{WrittenTerm, WrittenTerms, written, no_written, written_then, written_terms}
 use Rattle.syntax_trees.specs.Depth.{TreeNode, node_at, before_parts, term_nodes, terms_nodes, nodes_of_term, nodes_of_terms, first_deeper}
 use Rattle.specification_laws.specs.WrittenAs.{IsWrittenAs, AreWrittenAs}
@@ -84,7 +84,7 @@ mutual
 
 -- terms each by itself
 pub list_shallow : (signature : Signature) (limit : ℕ) (ts : List Term) (ws : List WrittenTerm)
-    → AreWrittenAs signature [] (terms_of ts) (written_terms ws)
+    → AreWrittenAs signature [] (argument_list_of ts) (written_terms ws)
     → ((i : ℕ) (t : Term) → slice_get ts i ≡ Some t → term_depth t ≤ limit) → IsShallow limit (nodes_of_terms ws)
 list_shallow signature limit [] [] writes within = refl
 list_shallow signature limit [] (w ∷ ws) writes within = absurd writes

@@ -1,11 +1,10 @@
 -- The text of a label without variables is read as this label.
 use Rattle.std.proofs.Common.{◌≡◌, ℕ, ◌<◌, false, true, List, [], ◌∷◌, ◌++◌, length, refl, ap, sym, ◌∙◌, subst, arith, codes, append-nil}
-use Rattle.std.specs.Prelude.{zero, suc, None, Some, slice_get, Option}
-use Rattle.std.proofs.lemmas.Option.{none-some, same_Some}
+use Rattle.std.specs.Prelude.{None, Some, slice_get, Option}
 use Rattle.lotos_base.proofs.Members.{member_at}
 use Rattle.lotos_base.specs.Names.{folded}
 use Rattle.lotos_base.specs.Signature.{Signature, IsWellFormedSignature}
-use Rattle.lotos_base.specs.Term.{Term, terms_of}
+use Rattle.lotos_base.specs.Term.{Term, argument_list_of}
 use Rattle.lotos_base.specs.WrittenTerm.{WrittenTerm, written_terms}
 use Rattle.lotos_lexer.specs.declared.tokens.Token.{Token}
 use Rattle.lotos_lexer.specs.declared.kinds.TheConstants.{NAME, EXIT, LEFT_PARENTHESIS, RIGHT_PARENTHESIS, EXCLAMATION}
@@ -19,6 +18,7 @@ use Rattle.lotos_rows.specs.Terms.{IsTerm, AreTerms, AreArguments, no_arguments,
 use Rattle.behaviour_semantics.specs.Behaviour.{Specification}
 use Rattle.behaviour_semantics.specs.Label.{Label, inner_event, gate_event, exit_event}
 use Rattle.behaviour_semantics.specs.WellFormed.{Every}
+use Rattle.behaviour_semantics.proofs.InstanceLemmas.{every_at}
 use Rattle.session_histories.specs.HandedOn.{round, commas, term_texts, name_text, values_text, label_text}
 use Rattle.specification_laws.specs.TextNames.{IsWordSpelling}
 use Rattle.specification_laws.specs.WrittenAs.{AreWrittenAs}
@@ -38,15 +38,10 @@ word_has_bytes : (name : List ℕ) → IsWordSpelling name → 0 < length name
 word_has_bytes [] is = let never : false ≡ true = is.begins in cc
 word_has_bytes (b ∷ bs) is = omega arith
 
-every_at : {A : Type 0} (P : A → Type 0) (xs : List A) → Every P xs → (i : ℕ) (x : A) → slice_get xs i ≡ Some x → P x
-every_at P [] every i x found = absurd (none-some x found)
-every_at P (y ∷ ys) every zero x found = subst P (same_Some y x found) every.0
-every_at P (y ∷ ys) every (suc i) x found = every_at P ys every.1 i x found
-
 -- what ground terms are written as is read as these terms
 values_read : (signature : Signature) → IsWellFormedSignature signature → (ts : List Term) (ws : List WrittenTerm) → Every
     (IsValue signature) ts
-    → AreWrittenAs signature [] (terms_of ts) (written_terms ws) → AreReadAs signature ws ts
+    → AreWrittenAs signature [] (argument_list_of ts) (written_terms ws) → AreReadAs signature ws ts
 values_read signature well [] [] all writes = tt
 values_read signature well [] (w ∷ ws) all writes = absurd writes
 values_read signature well (t ∷ ts) [] all writes = absurd writes
@@ -93,7 +88,7 @@ module _ (signature : Signature) (specification : Specification) (names : HasRea
       there = ap (λ (bytes : List ℕ). name ++ bytes) (sym (append-nil (values_text signature ts)))
 
       values : Stands 0 name (values_text signature ts) [] (Many (Behind EXCLAMATION (IsTerm text)))
-          (λ (ws : List WrittenTerm). AreWrittenAs signature [] (terms_of ts) (written_terms ws))
+          (λ (ws : List WrittenTerm). AreWrittenAs signature [] (argument_list_of ts) (written_terms ws))
       values = values_stand 0 text signature names.well_formed names.spelled ts plain.closed.1 name [] there nothing_apart
 
   between_arguments : {text : List ℕ} {tokens : List Token} {ws : List WrittenTerm}
@@ -129,7 +124,7 @@ module _ (signature : Signature) (specification : Specification) (names : HasRea
       text = codes "exit" ++ listed
 
       values : Stands 0 (codes "exit") listed [] (Between LEFT_PARENTHESIS RIGHT_PARENTHESIS (AreTerms text))
-          (λ (ws : List WrittenTerm). AreWrittenAs signature [] (terms_of (t ∷ ts)) (written_terms ws))
+          (λ (ws : List WrittenTerm). AreWrittenAs signature [] (argument_list_of (t ∷ ts)) (written_terms ws))
       values =
           listed_stand 0 text signature names.well_formed names.spelled t ts all (codes "exit") []
           (ap (λ (bytes : List ℕ). codes "exit" ++ bytes) (sym (append-nil listed)))
@@ -149,7 +144,7 @@ module _ (signature : Signature) (specification : Specification) (names : HasRea
       let name : (n : List ℕ) × (slice_get specification.gate_names g ≡ Some n) = member_at specification.gate_names g plain.closed.0 in
       subst (λ (o : Option (List ℕ)). IsLabelReading signature specification (name_text o ++ values_text signature ts) (gate_event g ts))
       (sym name.1)
-      (event_read g name.0 ts name.1 (every_at IsWordSpelling specification.gate_names names.gates g name.0 name.1) plain)
+      (event_read g name.0 ts name.1 (every_at IsWordSpelling specification.gate_names g name.0 names.gates name.1) plain)
 
 pub read_back : LabelTextsAreReadOnce → LabelTextsAreReadBack
 read_back once = record {

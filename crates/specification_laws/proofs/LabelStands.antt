@@ -2,7 +2,7 @@
 use Rattle.std.proofs.Common.{◌≡◌, ℕ, false, List, [], ◌∷◌, ◌++◌, map, refl, ap, sym, subst, arith, codes, append-nil}
 use Rattle.lotos_base.specs.Signature.{Signature, IsWellFormedSignature}
 use Rattle.lotos_base.specs.Sorting.{IsGroundOf}
-use Rattle.lotos_base.specs.Term.{Term, terms_of}
+use Rattle.lotos_base.specs.Term.{Term, argument_list_of}
 use Rattle.lotos_base.specs.WrittenTerm.{WrittenTerm, written_terms}
 use Rattle.lotos_lexer.specs.declared.tokens.Token.{Token}
 use Rattle.lotos_lexer.specs.declared.kinds.TheConstants.{EXCLAMATION, LEFT_PARENTHESIS, RIGHT_PARENTHESIS}
@@ -41,7 +41,8 @@ values_apart signature [] rest is = is
 values_apart signature (t ∷ ts) rest is =
     apart 32 (33 ∷ ((entry_term_text signature t ++ values_text signature ts) ++ rest)) refl refl
 
-texts_same : (signature : Signature) (ts : List Term) → map phrase_text (phrases_of signature [] (terms_of ts)) ≡ term_texts signature ts
+texts_same : (signature : Signature) (ts : List Term) → map phrase_text (phrases_of signature [] (argument_list_of ts))
+    ≡ term_texts signature ts
 texts_same signature [] = refl
 texts_same signature (t ∷ ts) = ap (λ (texts : List (List ℕ)). entry_term_text signature t ∷ texts) (texts_same signature ts)
 
@@ -49,7 +50,7 @@ module _ (number : ℕ) (text : List ℕ) (signature : Signature) (well : IsWell
     (spelled : HasTextNames signature) where
   -- the written terms are these values
   abbrev pub Writes : List Term → List WrittenTerm → Type 0
-  Writes ts ws = AreWrittenAs signature [] (terms_of ts) (written_terms ws)
+  Writes ts ws = AreWrittenAs signature [] (argument_list_of ts) (written_terms ws)
 
   value_stands : (t : Term) → IsValue signature t
       → StandsAnywhere number text (entry_term_text signature t) (IsTerm text) (IsWrittenAs signature [] t)
@@ -99,7 +100,7 @@ module _ (number : ℕ) (text : List ℕ) (signature : Signature) (well : IsWell
   }
   values_stand (t ∷ ts) all before rest there apart_rest = value_then t ts all.0 (values_stand ts all.1) before rest there apart_rest
 
-  all_stand : (ts : List Term) → Every (IsValue signature) ts → AllStand number text signature well spelled [] (terms_of ts)
+  all_stand : (ts : List Term) → Every (IsValue signature) ts → AllStand number text signature well spelled [] (argument_list_of ts)
   all_stand [] all = tt
   all_stand (t ∷ ts) all = (term_stands number text signature well spelled [] t all.0.0 all.0.1.sorted all.0.1.ground, all_stand ts all.1)
 
@@ -112,6 +113,6 @@ module _ (number : ℕ) (text : List ℕ) (signature : Signature) (well : IsWell
       subst (λ (texts : List (List ℕ)). text ≡ before ++ (round (commas texts) ++ rest)
       → Stands number before (round (commas texts)) rest (Between LEFT_PARENTHESIS RIGHT_PARENTHESIS (AreTerms text)) (Writes (t ∷ ts)))
       (texts_same signature (t ∷ ts))
-      (λ there. round_stands number text (commas (map phrase_text (phrases_of signature [] (terms_of (t ∷ ts))))) (AreTerms text)
+      (λ there. round_stands number text (commas (map phrase_text (phrases_of signature [] (argument_list_of (t ∷ ts))))) (AreTerms text)
       (Writes (t ∷ ts))
-      (list_stands number text signature well spelled [] t (terms_of ts) (all_stand (t ∷ ts) all)) before rest there)
+      (list_stands number text signature well spelled [] t (argument_list_of ts) (all_stand (t ∷ ts) all)) before rest there)

@@ -8,8 +8,8 @@ use Rattle.lotos_base.specs.WrittenTerm.{PlacedName, WrittenTerm}
 use Rattle.lotos_lexer.specs.declared.kinds.TheConstants.{NAME, DIGIT_NAME, SIGN_NAME, I, EXIT, OF, COMMA, LEFT_PARENTHESIS, RIGHT_PARENTHESIS, EXCLAMATION}
 use Rattle.lotos_lexer.specs.declared.tokens.Token.{Token}
 use Rattle.lotos_lexer.specs.Tokens as lexed
-use Rattle.lotos_lexer.specs.Tokens.{Lexed, tokens_of}
-use Rattle.lotos_rows.specs.Words.{IsOf, there, Many, no_more, and_then, Behind, behind}
+use Rattle.lotos_lexer.specs.Tokens.{tokens_of}
+use Rattle.lotos_rows.specs.Words.{IsOfKind, there, Many, no_more, and_then, Behind, behind}
 use Rattle.lotos_rows.specs.Names.{named, IsOperationName, word_name, digit_name, sign_name}
 use Rattle.lotos_rows.specs.Terms.{IsTerm, grouped_factors, AreFactors, one_factor, more_factors, IsFactor, without_sort, with_sort, IsBase, without_arguments, with_arguments, bracketed, AreTerms, one_term, more_terms, AreArguments, no_arguments, some_arguments}
 use Rattle.session_histories.specs.HandedOn.{TextsAreUnambiguous}
@@ -18,13 +18,14 @@ use Rattle.sort_terms.specs.ReadingOutcome.{ReadingOutcome, SortedTerm, answered
 use Rattle.behaviour_semantics.specs.Behaviour.{Specification}
 use Rattle.behaviour_semantics.specs.Label.{Label, inner_event, gate_event, exit_event}
 use Rattle.behaviour_semantics.specs.WellFormed.{Every}
+use Rattle.session_histories.proofs.HandedOn.{same_tokens}
 use Rattle.declaration_laws.specs.DeclaredGates.{HasDistinctGates}
 use Rattle.specification_laws.specs.LabelReading.{WrittenLabel, written_inner, written_event, written_exit, IsWrittenLabel, an_inner, an_event, an_exit, AreReadAs, IsLabelOf}
 use Rattle.specification_laws.specs.LabelLaws.{LabelTextsAreReadOnce}
 
 -- ---- Kinds of tokens
 
-other_kind : (kind other : ℕ) (t : Token) → nat_eq kind other ≡ false → IsOf kind t → IsOf other t → ⊥
+other_kind : (kind other : ℕ) (t : Token) → nat_eq kind other ≡ false → IsOfKind kind t → IsOfKind other t → ⊥
 other_kind kind other t differ is also =
     let same : kind ≡ other = sym is.kind_is ∙ also.kind_is in
     let one : nat_eq kind other ≡ nat_eq kind kind = ap (λ (n : ℕ). nat_eq kind n) (sym same) in
@@ -35,7 +36,7 @@ other_kind kind other t differ is also =
 
 -- no token of the list is a `!`
 abbrev IsNoMark : Token → Type 0
-IsNoMark t = ¬ IsOf EXCLAMATION t
+IsNoMark t = ¬ IsOfKind EXCLAMATION t
 
 abbrev NoMark : List Token → Type 0
 NoMark tokens = Every IsNoMark tokens
@@ -92,7 +93,7 @@ module _ (text : List ℕ) where
 -- the list begins with a `!`, or is empty
 abbrev BeginsMark : List Token → Type 0
 BeginsMark [] = Unit {0}
-BeginsMark (t ∷ ts) = IsOf EXCLAMATION t
+BeginsMark (t ∷ ts) = IsOfKind EXCLAMATION t
 
 first_same : (x y : Token) (xs ys : List Token) → x ∷ xs ≡ y ∷ ys → x ≡ y
 first_same x y xs ys e = cc
@@ -104,10 +105,10 @@ split : (xs ys us vs : List Token) → NoMark xs → NoMark ys → BeginsMark us
 split [] [] us vs free also begins begin e = (refl, e)
 split [] (y ∷ ys) [] vs free also begins begin e = cc
 split [] (y ∷ ys) (u ∷ us) vs free also begins begin e =
-    absurd (also.0 (subst (IsOf EXCLAMATION) (first_same u y us (ys ++ vs) e) begins))
+    absurd (also.0 (subst (IsOfKind EXCLAMATION) (first_same u y us (ys ++ vs) e) begins))
 split (x ∷ xs) [] us [] free also begins begin e = cc
 split (x ∷ xs) [] us (v ∷ vs) free also begins begin e =
-    absurd (free.0 (subst (IsOf EXCLAMATION) (sym (first_same x v (xs ++ us) vs e)) begin))
+    absurd (free.0 (subst (IsOfKind EXCLAMATION) (sym (first_same x v (xs ++ us) vs e)) begin))
 split (x ∷ xs) (y ∷ ys) us vs free also begins begin e =
     let h : x ≡ y = first_same x y (xs ++ us) (ys ++ vs) e in
     let t : (xs ≡ ys) × (us ≡ vs) =
@@ -164,21 +165,21 @@ module _ (unambiguous : TextsAreUnambiguous) (text : List ℕ) where
   one_written : (ts us : List Token) (w v : WrittenLabel) → ts ≡ us → IsWrittenLabel text ts w → IsWrittenLabel text us v → w ≡ v
   one_written _ _ _ _ e (an_inner is) (an_inner also) = refl
   one_written _ _ _ _ e (an_inner {word = x} is) (an_event {gate = y} {tokens = ys} also values) =
-      absurd (other_kind NAME I x refl (subst (IsOf NAME) (sym (first_same x y [] ys e)) also) is)
+      absurd (other_kind NAME I x refl (subst (IsOfKind NAME) (sym (first_same x y [] ys e)) also) is)
   one_written _ _ _ _ e (an_inner {word = x} is) (an_exit {word = y} {tokens = ys} also values) =
-      absurd (other_kind EXIT I x refl (subst (IsOf EXIT) (sym (first_same x y [] ys e)) also) is)
+      absurd (other_kind EXIT I x refl (subst (IsOfKind EXIT) (sym (first_same x y [] ys e)) also) is)
   one_written _ _ _ _ e (an_event {gate = x} {tokens = xs} is values) (an_inner {word = y} also) =
-      absurd (other_kind I NAME x refl (subst (IsOf I) (sym (first_same x y xs [] e)) also) is)
+      absurd (other_kind I NAME x refl (subst (IsOfKind I) (sym (first_same x y xs [] e)) also) is)
   one_written _ _ _ _ e (an_event {gate = x} {tokens = xs} {values = ws} is values)
       (an_event {gate = y} {tokens = ys} {values = vs} also others) =
       ap (λ (g : Token). written_event (named text g) ws) (first_same x y xs ys e)
       ∙ ap (λ (zs : List WrittenTerm). written_event (named text y) zs) (one_values xs ys ws vs (rest_same x y xs ys e) values others)
   one_written _ _ _ _ e (an_event {gate = x} {tokens = xs} is values) (an_exit {word = y} {tokens = ys} also others) =
-      absurd (other_kind EXIT NAME x refl (subst (IsOf EXIT) (sym (first_same x y xs ys e)) also) is)
+      absurd (other_kind EXIT NAME x refl (subst (IsOfKind EXIT) (sym (first_same x y xs ys e)) also) is)
   one_written _ _ _ _ e (an_exit {word = x} {tokens = xs} is values) (an_inner {word = y} also) =
-      absurd (other_kind I EXIT x refl (subst (IsOf I) (sym (first_same x y xs [] e)) also) is)
+      absurd (other_kind I EXIT x refl (subst (IsOfKind I) (sym (first_same x y xs [] e)) also) is)
   one_written _ _ _ _ e (an_exit {word = x} {tokens = xs} is values) (an_event {gate = y} {tokens = ys} also others) =
-      absurd (other_kind NAME EXIT x refl (subst (IsOf NAME) (sym (first_same x y xs ys e)) also) is)
+      absurd (other_kind NAME EXIT x refl (subst (IsOfKind NAME) (sym (first_same x y xs ys e)) also) is)
   one_written _ _ _ _ e (an_exit {word = x} {tokens = xs} {values = ws} is values)
       (an_exit {word = y} {tokens = ys} {values = vs} also others) =
       ap written_exit (one_arguments xs ys ws vs (rest_same x y xs ys e) values others)
@@ -225,9 +226,6 @@ module _ (once : ReadingComesToOneThing) (signature : Signature) (specification 
   one_label (written_exit ws) (exit_event ts) inner_event first second = absurd second
   one_label (written_exit ws) (exit_event ts) (gate_event h us) first second = absurd second
   one_label (written_exit ws) (exit_event ts) (exit_event us) first second = ap exit_event (one_terms_read ws ts us first second)
-
-same_tokens : (all : Lexed) (some other : List Token) → all ≡ lexed.Tokens some → all ≡ lexed.Tokens other → some ≡ other
-same_tokens all some other e f = let both : lexed.Tokens some ≡ lexed.Tokens other = sym e ∙ f in cc
 
 pub read_once : TextsAreUnambiguous → ReadingComesToOneThing → LabelTextsAreReadOnce
 read_once unambiguous once signature specification text one other distinct first second =

@@ -14,8 +14,9 @@ use Rattle.lotos_lexer.specs.declared.lexemes.Lexeme.{Lexeme}
 use Rattle.lotos_lexer.specs.Bytes.{first_is, begins_with, is_sign}
 use Rattle.lotos_lexer.specs.Spellings.{Spelling, reserved_words, operators, reserved_runs, single_signs}
 use Rattle.lotos_lexer.specs.Lexemes.{underscore_before, word_length, kind_in, word_kind_in, lexeme_of, spelling_at, closing}
+use Rattle.lotos_lexer.proofs.Spans.{word_length-le}
 use Rattle.specification_laws.proofs.NameTokens.{digit_no_letter}
-use Rattle.specification_laws.proofs.WordLemmas.{word_within, word_again, run_within, run_again, taken_long, first_stays, word_some, run_some, first_alphanumeric}
+use Rattle.specification_laws.proofs.WordLemmas.{word_again, run_within, run_again, taken_long, first_stays, word_some, run_some, first_alphanumeric}
 use Rattle.specification_laws.specs.LongestTokens.{IsToken, a_word, a_digit_name, a_run, a_fixed, closing_gates, IsLongest, IsTokenTaken, TokensAreLongest}
 
 -- ---- The first byte tells which tokens may fit
@@ -193,8 +194,8 @@ only_runs open_list kind bytes is (closing_gates opened kind_is same) =
 word_longest : (open_list : Bool) (bytes : List ℕ) → first_is is_ascii_alphabetic bytes ≡ true
     → IsLongest open_list bytes (unwrap_or (word_kind_in reserved_words (take (word_length bytes) bytes)) NAME) (word_length bytes)
 word_longest open_list bytes is = record {
-  within = word_within bytes;
-  token = a_word begins (word_again bytes ∙ sym (taken_long (word_length bytes) bytes (word_within bytes))) refl;
+  within = word_length-le bytes;
+  token = a_word begins (word_again bytes ∙ sym (taken_long (word_length bytes) bytes (word_length-le bytes))) refl;
   longest = longest;
   alone = λ other token. (only_words open_list other (take (word_length bytes) bytes) begins token).kind_is;
 }
@@ -215,8 +216,8 @@ word_longest open_list bytes is = record {
 digit_longest : (open_list : Bool) (bytes : List ℕ) → first_is is_ascii_digit bytes ≡ true
     → IsLongest open_list bytes DIGIT_NAME (word_length bytes)
 digit_longest open_list bytes is = record {
-  within = word_within bytes;
-  token = a_digit_name begins (word_again bytes ∙ sym (taken_long (word_length bytes) bytes (word_within bytes))) refl;
+  within = word_length-le bytes;
+  token = a_digit_name begins (word_again bytes ∙ sym (taken_long (word_length bytes) bytes (word_length-le bytes))) refl;
   longest = longest;
   alone = λ other token. (only_digits open_list other (take (word_length bytes) bytes) begins token).kind_is;
 }

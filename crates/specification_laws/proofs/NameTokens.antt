@@ -12,7 +12,7 @@ use Rattle.lotos_lexer.specs.declared.lexemes.Lexeme.{Lexeme}
 use Rattle.lotos_lexer.specs.declared.kinds.TheConstants.{NAME, DIGIT_NAME, SIGN_NAME}
 use Rattle.lotos_lexer.specs.declared.pieces.Piece.TheVariants as piece
 use Rattle.lotos_lexer.specs.Bytes.{first_is, begins_with, is_blank, is_sign}
-use Rattle.lotos_lexer.specs.Lexemes.{underscore_before, word_length, kind_in, word_kind_in, lexeme_of, spelling_at, word, digit_name, operator, closing, run, single_sign, lexeme_at}
+use Rattle.lotos_lexer.specs.Lexemes.{underscore_before, word_length, kind_in, word_kind_in, lexeme_of, spelling_at, word, digit_name, operator, closing, run_of_signs, single_sign, lexeme_at}
 use Rattle.lotos_lexer.specs.Pieces.{close_at, comment, token, piece_at}
 use Rattle.lotos_lexer.specs.Spellings.{Spelling, reserved_words, operators, reserved_runs}
 use Rattle.specification_laws.specs.TextNames.{IsWordSpelling, IsDigitSpelling, IsSignSpelling}
@@ -135,7 +135,8 @@ digit_found (b ∷ bs) rest is apart =
     lexeme_found (λ bytes. DIGIT_NAME) (is_ascii_digit b) (word_length (b ∷ (bs ++ rest))) (b ∷ bs) rest DIGIT_NAME is.begins
     (word_stops (b ∷ bs) rest apart.no_word ∙ is.whole) refl
 
-run_found : (name rest : List ℕ) → IsSignSpelling name → IsApart rest → run (name ++ rest) ≡ Some (lexeme_of SIGN_NAME (length name))
+run_found : (name rest : List ℕ) → IsSignSpelling name → IsApart rest
+    → run_of_signs (name ++ rest) ≡ Some (lexeme_of SIGN_NAME (length name))
 run_found [] rest is apart = let never : false ≡ true = is.begins in cc
 run_found (b ∷ bs) rest is apart =
     lexeme_found (λ bytes. unwrap_or (kind_in reserved_runs bytes) SIGN_NAME) (is_sign b) (prefix_len is_sign (b ∷ (bs ++ rest)))
@@ -226,7 +227,7 @@ sign_lexeme b bs rest is apart =
     (or_later (digit_name bytes) _ l (no_digit_name b (bs ++ rest) (sign_no_digit b is.begins))
     (or_later (operator bytes) _ l (no_spelling operators b (bs ++ rest) (sign_no_operator b is.begins))
     (or_later (closing false bytes) _ l refl
-    (or_first (run bytes) (single_sign bytes) l (run_found (b ∷ bs) rest is apart)))))
+    (or_first (run_of_signs bytes) (single_sign bytes) l (run_found (b ∷ bs) rest is apart)))))
   where
     bytes : List ℕ
     bytes = b ∷ (bs ++ rest)

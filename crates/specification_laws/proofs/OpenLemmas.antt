@@ -2,7 +2,7 @@
 use Rattle.std.proofs.Common.{◌≡◌, ℕ, Bool, true, false, ◌&&◌, if◌then◌else◌, List, [], ◌∷◌, ◌++◌, codes, refl, ap, sym, ◌∙◌, subst}
 use Rattle.std.specs.Prelude.{◌==◌}
 use Rattle.std.specs.List.{list_all}
-use Rattle.std.proofs.lemmas.Bool.{and_parts, not-true}
+use Rattle.std.proofs.lemmas.Bool.{and_parts, not-true, and_from}
 use Rattle.std.proofs.lemmas.Bool.Decides.{Decides-eqb}
 use Rattle.std.proofs.lemmas.List.{append_assoc}
 use Rattle.std.proofs.lemmas.List.Folds.{list_all-append}
@@ -11,33 +11,33 @@ use Rattle.std.proofs.Math.Seq.{take-append_seam}
 use Rattle.lotos_lexer.specs.declared.kinds.TheConstants.{GATES_OPEN}
 use Rattle.lotos_lexer.specs.Tokens.{list_open_behind}
 use Rattle.specification_laws.specs.LongestTokens.{IsToken}
-use Rattle.specification_laws.specs.Cuttings.{Part, a_blank, a_comment, a_token, has_no_bracket, HasOpenGates, TellsOpen, Stands}
+use Rattle.specification_laws.specs.Cuttings.{TextPart, a_blank, a_comment, a_token, has_no_bracket, HasOpenGates, TellsOpen, Stands}
 use Rattle.specification_laws.proofs.LongestLemmas.{fails}
 use Rattle.specification_laws.proofs.BracketLemmas.{is_no_bracket, closes, fits, token_fits}
 
 -- ---- A list with one more at its end, parted at one of its members
 
-data EndParted (before : List Part) (last : Part) (front : List Part) (one : Part) (back : List Part) : Type 0 where
+data EndParted (before : List TextPart) (last : TextPart) (front : List TextPart) (one : TextPart) (back : List TextPart) : Type 0 where
   at_last : last ≡ one → EndParted before last front one back
-  earlier : (inner : List Part) → back ≡ inner ++ (last ∷ []) → before ≡ front ++ (one ∷ inner) → EndParted before last front one back
+  earlier : (inner : List TextPart) → back ≡ inner ++ (last ∷ []) → before ≡ front ++ (one ∷ inner) → EndParted before last front one back
 
-first_same : (one other : Part) (ours others : List Part) → one ∷ ours ≡ other ∷ others → one ≡ other
+first_same : (one other : TextPart) (ours others : List TextPart) → one ∷ ours ≡ other ∷ others → one ≡ other
 first_same one other ours others same = cc same
 
-rest_same : (one other : Part) (ours others : List Part) → one ∷ ours ≡ other ∷ others → ours ≡ others
+rest_same : (one other : TextPart) (ours others : List TextPart) → one ∷ ours ≡ other ∷ others → ours ≡ others
 rest_same one other ours others same = cc same
 
-end_parted : (before : List Part) (last : Part) (front : List Part) (one : Part) (back : List Part)
+end_parted : (before : List TextPart) (last : TextPart) (front : List TextPart) (one : TextPart) (back : List TextPart)
     → before ++ (last ∷ []) ≡ front ++ (one ∷ back) → EndParted before last front one back
 end_parted [] last [] one back same = at_last (first_same last one [] back same)
 end_parted [] last (f ∷ front) one back same = absurd (never front (rest_same last f [] (front ++ (one ∷ back)) same))
   where
-    never : (front : List Part) → [] ≡ front ++ (one ∷ back) → ⊥
+    never : (front : List TextPart) → [] ≡ front ++ (one ∷ back) → ⊥
     never [] h = cc h
     never (f ∷ front) h = cc h
 end_parted (b ∷ before) last [] one back same =
     earlier before (sym (rest_same b one (before ++ (last ∷ [])) back same))
-    (ap (λ (p : Part). p ∷ before) (first_same b one (before ++ (last ∷ [])) back same))
+    (ap (λ (p : TextPart). p ∷ before) (first_same b one (before ++ (last ∷ [])) back same))
 end_parted (b ∷ before) last (f ∷ front) one back same =
     by (end_parted before last front one back (rest_same b f (before ++ (last ∷ [])) (front ++ (one ∷ back)) same))
   where
@@ -45,31 +45,27 @@ end_parted (b ∷ before) last (f ∷ front) one back same =
     by (at_last is) = at_last is
     by (earlier inner ends is) =
         earlier inner ends
-        (ap (λ (p : Part). p ∷ before) (first_same b f (before ++ (last ∷ [])) (front ++ (one ∷ back)) same)
-        ∙ ap (λ (ps : List Part). f ∷ ps) is)
-
-both : (one other : Bool) → one ≡ true → other ≡ true → (one && other) ≡ true
-both true other h k = k
-both false other h k = h
+        (ap (λ (p : TextPart). p ∷ before) (first_same b f (before ++ (last ∷ [])) (front ++ (one ∷ back)) same)
+        ∙ ap (λ (ps : List TextPart). f ∷ ps) is)
 
 -- ---- One more part
 
 -- a part that opens no list and closes none
-abbrev Leaves : Part → Type 0
+abbrev Leaves : TextPart → Type 0
 Leaves part = (has_no_bracket part ≡ true) × ((bytes : List ℕ) → part ≡ a_token GATES_OPEN bytes → ⊥)
 
-still_open : (before : List Part) (part : Part) → Leaves part → HasOpenGates before → HasOpenGates (before ++ (part ∷ []))
+still_open : (before : List TextPart) (part : TextPart) → Leaves part → HasOpenGates before → HasOpenGates (before ++ (part ∷ []))
 still_open before part leaves opened = record {
   before = opened.before;
   after = opened.after ++ (part ∷ []);
-  opened = ap (λ (ps : List Part). ps ++ (part ∷ [])) opened.opened
+  opened = ap (λ (ps : List TextPart). ps ++ (part ∷ [])) opened.opened
       ∙ append_assoc opened.before (a_token GATES_OPEN (codes "|[") ∷ opened.after) (part ∷ []);
   still = list_all-append has_no_bracket opened.after (part ∷ [])
-      ∙ both (list_all has_no_bracket opened.after) (has_no_bracket part && true) opened.still
-      (both (has_no_bracket part) true leaves.0 refl);
+      ∙ and_from (list_all has_no_bracket opened.after) (has_no_bracket part && true) opened.still
+      (and_from (has_no_bracket part) true leaves.0 refl);
 }
 
-open_before : (before : List Part) (part : Part) → Leaves part → HasOpenGates (before ++ (part ∷ [])) → HasOpenGates before
+open_before : (before : List TextPart) (part : TextPart) → Leaves part → HasOpenGates (before ++ (part ∷ [])) → HasOpenGates before
 open_before before part leaves opened =
     by (end_parted before part opened.before (a_token GATES_OPEN (codes "|[")) opened.after opened.opened)
   where
@@ -85,15 +81,15 @@ open_before before part leaves opened =
           ∙ (ap (list_all has_no_bracket) (sym ends) ∙ opened.still))).0;
     }
 
-left_so : (open_list : Bool) (before : List Part) (part : Part) → Leaves part → TellsOpen open_list before
+left_so : (open_list : Bool) (before : List TextPart) (part : TextPart) → Leaves part → TellsOpen open_list before
     → TellsOpen open_list (before ++ (part ∷ []))
 left_so true before part leaves told = still_open before part leaves told
 left_so false before part leaves told = λ opened. told (open_before before part leaves opened)
 
-opened_now : (before : List Part) → HasOpenGates (before ++ (a_token GATES_OPEN (codes "|[") ∷ []))
+opened_now : (before : List TextPart) → HasOpenGates (before ++ (a_token GATES_OPEN (codes "|[") ∷ []))
 opened_now before = record { before = before; after = []; opened = refl; still = refl }
 
-closed_now : (before : List Part) (part : Part) → has_no_bracket part ≡ false → HasOpenGates (before ++ (part ∷ [])) → ⊥
+closed_now : (before : List TextPart) (part : TextPart) → has_no_bracket part ≡ false → HasOpenGates (before ++ (part ∷ [])) → ⊥
 closed_now before part bracket opened =
     by (end_parted before part opened.before (a_token GATES_OPEN (codes "|[")) opened.after opened.opened)
   where
@@ -105,12 +101,12 @@ closed_now before part bracket opened =
         fails (has_no_bracket part) (and_parts (has_no_bracket part) true all.1).0 bracket
 
 -- whether a list is open behind a part, by its kind
-abbrev pub open_after : Part → Bool → Bool
+abbrev pub open_after : TextPart → Bool → Bool
 open_after (a_blank byte) open_list = open_list
 open_after (a_comment bytes) open_list = open_list
 open_after (a_token kind bytes) open_list = list_open_behind kind open_list
 
-token_tells : (open_list : Bool) (before : List Part) (kind : ℕ) (bytes : List ℕ) → TellsOpen open_list before
+token_tells : (open_list : Bool) (before : List TextPart) (kind : ℕ) (bytes : List ℕ) → TellsOpen open_list before
     → fits (kind == GATES_OPEN) (closes kind) bytes ≡ true
     → TellsOpen (list_open_behind kind open_list) (before ++ (a_token kind bytes ∷ []))
 token_tells open_list before kind bytes told fit = by (kind == GATES_OPEN) refl (closes kind) refl fit
@@ -127,7 +123,7 @@ token_tells open_list before kind bytes told fit = by (kind == GATES_OPEN) refl 
     by false is false is_closing fit =
         left_so open_list before (a_token kind bytes) (fit, λ others same. other_kind others same) told
       where
-        kind_of : Part → ℕ
+        kind_of : TextPart → ℕ
         kind_of (a_token k bs) = k
         kind_of (a_comment bs) = 0
         kind_of (a_blank byte) = 0
@@ -135,7 +131,7 @@ token_tells open_list before kind bytes told fit = by (kind == GATES_OPEN) refl 
         other_kind : (others : List ℕ) → a_token kind bytes ≡ a_token GATES_OPEN others → ⊥
         other_kind others same = fails (kind == GATES_OPEN) (ap (λ (k : ℕ). k == GATES_OPEN) (ap kind_of same)) is
 
-pub told_behind : (open_list : Bool) (before : List Part) (part : Part) (rest : List ℕ) → TellsOpen open_list before
+pub told_behind : (open_list : Bool) (before : List TextPart) (part : TextPart) (rest : List ℕ) → TellsOpen open_list before
     → Stands before part rest
     → TellsOpen (open_after part open_list) (before ++ (part ∷ []))
 told_behind open_list before (a_blank byte) rest told stands =

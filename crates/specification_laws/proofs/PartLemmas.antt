@@ -9,7 +9,7 @@ use Rattle.lotos_lexer.specs.Lexemes.{lexeme_of, lexeme_at}
 use Rattle.lotos_lexer.specs.Pieces.{close_at, comment, token, piece_at}
 use Rattle.lotos_lexer.proofs.Spans.{LexemeSpans, lexeme_at_spans}
 use Rattle.specification_laws.specs.LongestTokens.{IsToken, IsLongest, HasNoToken, IsTokenTaken}
-use Rattle.specification_laws.specs.Cuttings.{Part, a_blank, a_comment, a_token, part_bytes, TellsOpen, IsComment, BeginsPlainly, Stands, IsBadByte, IsOpenComment, Ending, at_the_end, at_a_bad_byte, at_an_open_comment, Ends}
+use Rattle.specification_laws.specs.Cuttings.{TextPart, a_blank, a_comment, a_token, part_bytes, TellsOpen, IsComment, BeginsPlainly, Stands, IsBadByte, IsOpenComment, Ending, at_the_end, at_a_bad_byte, at_an_open_comment, TextEnds}
 use Rattle.specification_laws.proofs.WordLemmas.{taken_long}
 use Rattle.specification_laws.proofs.LongestLemmas.{begins_so, tokens_are_longest}
 use Rattle.specification_laws.proofs.CommentLemmas.{rest_of, close_of, close_found, close_none}
@@ -39,7 +39,7 @@ none_taken open_list bytes none = by (lexeme_at open_list bytes) (tokens_are_lon
     by (Some lexeme) taken = absurd (none lexeme.length lexeme.kind taken.within taken.token)
 
 -- what is told of parts is one
-one_told : (one other : Bool) (parts : List Part) → TellsOpen one parts → TellsOpen other parts → one ≡ other
+one_told : (one other : Bool) (parts : List TextPart) → TellsOpen one parts → TellsOpen other parts → one ≡ other
 one_told true true parts told also = refl
 one_told true false parts told also = absurd (also told)
 one_told false true parts told also = absurd (told also)
@@ -48,7 +48,7 @@ one_told false false parts told also = refl
 -- ---- What begins where a part stands
 
 -- what the part is for the lexer
-abbrev pub piece_of : Part → Piece
+abbrev pub piece_of : TextPart → Piece
 piece_of (a_blank byte) = piece.Blank
 piece_of (a_comment bytes) = piece.Comment (length bytes)
 piece_of (a_token kind bytes) = piece.Token (lexeme_of kind (length bytes))
@@ -74,7 +74,7 @@ comment_piece open_list bytes rest is =
         let inside = length-append is.inner (codes "*)") in
         omega (arith, all, inside)
 
-pub stands_piece : (open_list : Bool) (before : List Part) (part : Part) (rest : List ℕ) → TellsOpen open_list before
+pub stands_piece : (open_list : Bool) (before : List TextPart) (part : TextPart) (rest : List ℕ) → TellsOpen open_list before
     → Stands before part rest
     → piece_at open_list (part_bytes part ++ rest) ≡ piece_of part
 stands_piece open_list before (a_blank byte) rest told stands =
@@ -88,7 +88,7 @@ stands_piece open_list before (a_token kind bytes) rest told stands =
     (subst (λ (o : Bool). IsLongest o (bytes ++ rest) kind (length bytes)) (one_told stands.open_list open_list before stands.told told)
     stands.longest))
 
-pub bad_piece : (open_list : Bool) (before : List Part) (rest : List ℕ) → TellsOpen open_list before → IsBadByte before rest
+pub bad_piece : (open_list : Bool) (before : List TextPart) (rest : List ℕ) → TellsOpen open_list before → IsBadByte before rest
     → piece_at open_list rest ≡ piece.Nothing
 bad_piece open_list before rest told bad =
     plain_piece open_list rest bad.plain
@@ -106,11 +106,11 @@ open_piece open_list rest is =
 -- ---- A part stands where something begins
 
 -- the rest of a text begins with a part, is empty, or begins with a fault
-pub data Begins (open_list : Bool) (before : List Part) (text : List ℕ) : Type 0 where
-  with_part : (part : Part) (rest : List ℕ) → text ≡ part_bytes part ++ rest → Stands before part rest → Begins open_list before text
-  with_fault : (ending : Ending) → Ends before text ending → Begins open_list before text
+pub data Begins (open_list : Bool) (before : List TextPart) (text : List ℕ) : Type 0 where
+  with_part : (part : TextPart) (rest : List ℕ) → text ≡ part_bytes part ++ rest → Stands before part rest → Begins open_list before text
+  with_fault : (ending : Ending) → TextEnds before text ending → Begins open_list before text
 
-pub begins : (open_list : Bool) (before : List Part) (text : List ℕ) → TellsOpen open_list before → Begins open_list before text
+pub begins : (open_list : Bool) (before : List TextPart) (text : List ℕ) → TellsOpen open_list before → Begins open_list before text
 begins open_list before [] told = with_fault at_the_end refl
 begins open_list before (byte ∷ bytes) told =
     by_blank (is_blank byte) refl
@@ -157,14 +157,14 @@ begins open_list before (byte ∷ bytes) told =
 
 -- ---- Parts have bytes, and what begins tells the part
 
-pub stands_long : (before : List Part) (part : Part) (rest : List ℕ) → Stands before part rest
+pub stands_long : (before : List TextPart) (part : TextPart) (rest : List ℕ) → Stands before part rest
     → IsSpan (length (part_bytes part)) (part_bytes part ++ rest)
 stands_long before part rest stands =
     let some = at_least before part rest stands in
     let all = length-append (part_bytes part) rest in
     (some, omega (arith, all))
   where
-    at_least : (before : List Part) (part : Part) (rest : List ℕ) → Stands before part rest → 1 ≤ length (part_bytes part)
+    at_least : (before : List TextPart) (part : TextPart) (rest : List ℕ) → Stands before part rest → 1 ≤ length (part_bytes part)
     at_least before (a_blank byte) rest stands = omega arith
     at_least before (a_comment bytes) rest stands =
         let long = ap (λ (bs : List ℕ). length bs) stands.made_up in
@@ -175,7 +175,8 @@ stands_long before part rest stands =
         (subst (λ (found : Option Lexeme). LexemeSpans found (bytes ++ rest))
         (taken_of stands.open_list (bytes ++ rest) kind (length bytes) stands.longest) spans).0
 
-same_pieces : (one other : Part) (left right : List ℕ) → piece_of one ≡ piece_of other → part_bytes one ++ left ≡ part_bytes other ++ right
+same_pieces : (one other : TextPart) (left right : List ℕ) → piece_of one ≡ piece_of other
+    → part_bytes one ++ left ≡ part_bytes other ++ right
     → length (part_bytes one) ≡ length (part_bytes other)
 same_pieces (a_blank byte) (a_blank other) left right alike same = refl
 same_pieces (a_blank byte) (a_comment bytes) left right alike same = absurd (cc alike)
@@ -204,14 +205,14 @@ same_front (a ∷ as_) (b ∷ bs) left right long same =
     let first : a ≡ b = cc same in
     (ap (λ (x : ℕ). x ∷ as_) first ∙ ap (λ (xs : List ℕ). b ∷ xs) rest.0, rest.1)
 
-pub same_part : (one other : Part) (left right : List ℕ) → piece_of one ≡ piece_of other
+pub same_part : (one other : TextPart) (left right : List ℕ) → piece_of one ≡ piece_of other
     → part_bytes one ++ left ≡ part_bytes other ++ right
     → (one ≡ other) × (left ≡ right)
 same_part one other left right alike same =
     let both = same_front (part_bytes one) (part_bytes other) left right (same_pieces one other left right alike same) same in
     (by one other alike both.0, both.1)
   where
-    by : (one other : Part) → piece_of one ≡ piece_of other → part_bytes one ≡ part_bytes other → one ≡ other
+    by : (one other : TextPart) → piece_of one ≡ piece_of other → part_bytes one ≡ part_bytes other → one ≡ other
     by (a_blank byte) (a_blank other) alike bytes = let same : byte ≡ other = cc bytes in ap (λ (b : ℕ). a_blank b) same
     by (a_blank byte) (a_comment others) alike bytes = absurd (cc alike)
     by (a_blank byte) (a_token kind others) alike bytes = absurd (cc alike)

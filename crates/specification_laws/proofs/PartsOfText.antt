@@ -12,9 +12,9 @@ use Rattle.lotos_lexer.specs.Bytes.{is_sign}
 use Rattle.lotos_lexer.specs.Lexemes.{lexeme_of, word_length}
 use Rattle.lotos_lexer.specs.Pieces.{close_at, comment, piece_at}
 use Rattle.lotos_lexer.specs.Tokens.{token_at}
-use Rattle.lotos_rows.specs.Words.{IsOf, Between, between}
+use Rattle.lotos_rows.specs.Words.{IsOfKind, Between, between}
 use Rattle.lotos_rows.specs.Names.{named, IsOperationName, word_name, digit_name, sign_name}
-use Rattle.session_histories.specs.HandedOn.{begins_with, spaced, round}
+use Rattle.session_histories.specs.HandedOn.{begins_with_sign, spaced, round}
 use Rattle.specification_laws.specs.TextNames.{IsWordSpelling, IsDigitSpelling, IsSignSpelling, IsOperationSpelling}
 use Rattle.specification_laws.proofs.NameTokens.{IsApart, word_piece, digit_piece, sign_piece}
 use Rattle.specification_laws.proofs.CutPieces.{behind_bytes, IsCut, cut_joined, cut_one, cut_blank, spelled_there}
@@ -93,7 +93,7 @@ name_stands number text name (inr (inr is)) before rest there apart_rest = recor
 
 -- `of` and the name of a sort
 pub data IsSortBehind (text : List ℕ) : List Token → PlacedName → Type 0 where
-  sort_behind : {word sort : Token} → IsOf OF word → IsOf NAME sort → IsSortBehind text (word ∷ sort ∷ []) (named text sort)
+  sort_behind : {word sort : Token} → IsOfKind OF word → IsOfKind NAME sort → IsSortBehind text (word ∷ sort ∷ []) (named text sort)
 
 of_cut : (number : ℕ) (before rest : List ℕ)
     → IsCut number before (codes "of") (32 ∷ rest) (token_at number (behind_bytes before) (lexeme_of OF 2) ∷ [])
@@ -130,7 +130,7 @@ sort_stands number text name is before rest there apart_rest = record {
 
 -- behind a bracket that is opened stands no `*`
 abbrev pub BeginsOtherwise : List ℕ → Type 0
-BeginsOtherwise bytes = begins_with 42 bytes ≡ false
+BeginsOtherwise bytes = begins_with_sign 42 bytes ≡ false
 
 not_star : (b : ℕ) → nat_eq b 42 ≡ false → nat_eq 42 b ≡ false
 not_star b other = by (nat_eq 42 b) refl
@@ -148,7 +148,7 @@ opened_piece [] other = refl
 opened_piece (b ∷ bytes) other =
     unless (nat_eq 42 b) (comment (close_at bytes)) (piece.Token (lexeme_of LEFT_PARENTHESIS 1)) (not_star b other)
 
-pub opened_other : (bytes more : List ℕ) (star : Bool) → begins_with 42 bytes ≡ star
+pub opened_other : (bytes more : List ℕ) (star : Bool) → begins_with_sign 42 bytes ≡ star
     → BeginsOtherwise ((if star then codes " " ++ bytes else bytes) ++ (41 ∷ more))
 opened_other bytes more true is = refl
 opened_other [] more false is = refl
@@ -202,7 +202,7 @@ round_stands number text bytes one fits inside before rest there = record {
     left_is_cut : IsCut number before (codes "(") (spaced 42 bytes ++ (41 ∷ rest)) (left ∷ [])
     left_is_cut =
         cut_one number before (codes "(") (spaced 42 bytes ++ (41 ∷ rest)) LEFT_PARENTHESIS (omega arith)
-        (opened_piece (spaced 42 bytes ++ (41 ∷ rest)) (opened_other bytes rest (begins_with 42 bytes) refl)) refl
+        (opened_piece (spaced 42 bytes ++ (41 ∷ rest)) (opened_other bytes rest (begins_with_sign 42 bytes) refl)) refl
 
     inner_by : (star : Bool) → text ≡ (before ++ codes "(") ++ ((if star then codes " " ++ bytes else bytes) ++ (41 ∷ rest))
         → Stands number (before ++ codes "(") (if star then codes " " ++ bytes else bytes) (41 ∷ rest) one fits
@@ -214,7 +214,7 @@ round_stands number text bytes one fits inside before rest there = record {
 
     inner : Stands number (before ++ codes "(") (spaced 42 bytes) (41 ∷ rest) one fits
     inner =
-        inner_by (begins_with 42 bytes)
+        inner_by (begins_with_sign 42 bytes)
         (second_part text before (codes "(") (spaced 42 bytes) (41 ∷ rest)
         (first_part text before (codes "(" ++ spaced 42 bytes) (codes ")") rest there))
 
@@ -229,5 +229,5 @@ comma_cut number before rest =
     (cut_one number before (codes ",") (32 ∷ rest) COMMA (omega arith) refl refl)
     (cut_blank number (before ++ codes ",") rest)
 
-pub comma_is : (number : ℕ) (before : List ℕ) → IsOf COMMA (comma_token number before)
+pub comma_is : (number : ℕ) (before : List ℕ) → IsOfKind COMMA (comma_token number before)
 comma_is number before = record { kind_is = refl }

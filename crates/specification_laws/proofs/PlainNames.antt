@@ -12,7 +12,7 @@ use Rattle.std.proofs.lemmas.Bool.Decides.{Decides-eqb}
 use Rattle.std.proofs.lemmas.Option.{none-some}
 use Rattle.std.proofs.lemmas.Bool.{or_from}
 
-under_shorter : (more count : ℕ) → underscore_before more ≡ suc count → more ≡ count
+pub under_shorter : (more count : ℕ) → underscore_before more ≡ suc count → more ≡ count
 under_shorter zero count is = absurd (omega arith)
 under_shorter (suc more) count is = omega arith
 

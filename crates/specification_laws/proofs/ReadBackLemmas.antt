@@ -4,7 +4,7 @@ use Rattle.std.specs.Prelude.{Some, slice_get}
 use Rattle.std.proofs.lemmas.Option.{none-some, same_Some}
 use Rattle.lotos_base.specs.Signature.{Signature, IsWellFormedSignature}
 use Rattle.lotos_base.specs.Sorting.{HaveSorts, AreGround}
-use Rattle.lotos_base.specs.Term.{Term, terms_of}
+use Rattle.lotos_base.specs.Term.{Term, argument_list_of}
 use Rattle.behaviour_semantics.specs.Rule.{AreValues}
 use Rattle.lotos_base.specs.WrittenTerm.{WrittenTerm, written_terms}
 use Rattle.lotos_lexer.specs.declared.tokens.Token.{Token}
@@ -20,7 +20,7 @@ use Rattle.specification_laws.specs.WrittenAs.{AreWrittenAs}
 use Rattle.specification_laws.proofs.WrittenLemmas.{ground_terms_have_one_reading}
 use Rattle.specification_laws.specs.TextNames.{HasTextNames}
 use Rattle.specification_laws.specs.TermDepth.{term_depth}
-use Rattle.specification_laws.specs.ReadBack.{AreReadBackAt, IsReadBack, AreReadBack}
+use Rattle.specification_laws.specs.ReadBack.{AreReadBackAt, IsTermReadBack, AreReadBack}
 use Rattle.specification_laws.specs.ReadBackLaws.{TermTextsAreReadBack, TermListsAreReadBack}
 use Rattle.specification_laws.proofs.CutPieces.{IsCut}
 use Rattle.specification_laws.proofs.PartsOfText.{Stands, nothing_apart}
@@ -29,24 +29,26 @@ use Rattle.specification_laws.proofs.DepthLemmas.{list_shallow}
 
 -- the values as the arguments of an operation
 values_sorted : (signature : Signature) (sorts : List ℕ) (ts : List Term) → AreValues signature sorts ts
-    → HaveSorts signature (terms_of ts) sorts
+    → HaveSorts signature (argument_list_of ts) sorts
 values_sorted signature [] [] values = tt
 values_sorted signature [] (t ∷ ts) values = absurd values
 values_sorted signature (s ∷ ss) [] values = absurd values
 values_sorted signature (s ∷ ss) (t ∷ ts) values = (values.0.sorted, values_sorted signature ss ts values.1)
 
-values_ground : (signature : Signature) (sorts : List ℕ) (ts : List Term) → AreValues signature sorts ts → AreGround (terms_of ts)
+values_ground : (signature : Signature) (sorts : List ℕ) (ts : List Term) → AreValues signature sorts ts → AreGround (argument_list_of ts)
 values_ground signature [] [] values = tt
 values_ground signature [] (t ∷ ts) values = absurd values
 values_ground signature (s ∷ ss) [] values = absurd values
 values_ground signature (s ∷ ss) (t ∷ ts) values = (values.0.ground, values_ground signature ss ts values.1)
 
-texts_same : (signature : Signature) (ts : List Term) → map phrase_text (phrases_of signature [] (terms_of ts)) ≡ term_texts signature ts
+texts_same : (signature : Signature) (ts : List Term) → map phrase_text (phrases_of signature [] (argument_list_of ts))
+    ≡ term_texts signature ts
 texts_same signature [] = refl
 texts_same signature (t ∷ ts) = ap (λ (texts : List (List ℕ)). entry_term_text signature t ∷ texts) (texts_same signature ts)
 
 values_read : (signature : Signature) → IsWellFormedSignature signature → (sorts : List ℕ) (ts : List Term) (ws : List WrittenTerm)
-    → AreValues signature sorts ts → AreWrittenAs signature [] (terms_of ts) (written_terms ws) → AreReadBackAt signature sorts ws ts
+    → AreValues signature sorts ts → AreWrittenAs signature [] (argument_list_of ts) (written_terms ws)
+    → AreReadBackAt signature sorts ws ts
 values_read signature well [] [] [] values writes = tt
 values_read signature well [] [] (w ∷ ws) values writes = absurd writes
 values_read signature well [] (t ∷ ts) ws values writes = absurd values
@@ -63,7 +65,7 @@ record IsListed (signature : Signature) (number : ℕ) (text : List ℕ) (ts : L
   terms : List WrittenTerm
   cut_into : tokens_of number text ≡ lexed.Tokens tokens
   sentence : AreOptionalTerms text tokens terms
-  writes : AreWrittenAs signature [] (terms_of ts) (written_terms terms)
+  writes : AreWrittenAs signature [] (argument_list_of ts) (written_terms terms)
 
 whole_cut : (number : ℕ) (text : List ℕ) (tokens : List Token) → IsCut number [] text [] tokens
     → tokens_of number text ≡ lexed.Tokens tokens
@@ -82,16 +84,16 @@ listed signature well spelled number sorts [] values = record {
 listed signature well spelled number sorts (t ∷ ts) values = subst (λ (all : List ℕ). IsListed signature number all (t ∷ ts)) same found
   where
     text : List ℕ
-    text = commas (map phrase_text (phrases_of signature [] (terms_of (t ∷ ts))))
+    text = commas (map phrase_text (phrases_of signature [] (argument_list_of (t ∷ ts))))
 
     same : text ≡ commas (term_texts signature (t ∷ ts))
     same = ap commas (texts_same signature (t ∷ ts))
 
     part : Stands number [] text [] (AreTerms text) (λ (ws : List WrittenTerm).
-        AreWrittenAs signature [] (terms_of (t ∷ ts)) (written_terms ws))
+        AreWrittenAs signature [] (argument_list_of (t ∷ ts)) (written_terms ws))
     part =
-        list_stands number text signature well spelled [] t (terms_of ts)
-        (terms_stand number text signature well spelled [] (terms_of (t ∷ ts)) sorts (values_sorted signature sorts (t ∷ ts) values)
+        list_stands number text signature well spelled [] t (argument_list_of ts)
+        (terms_stand number text signature well spelled [] (argument_list_of (t ∷ ts)) sorts (values_sorted signature sorts (t ∷ ts) values)
         (values_ground signature sorts (t ∷ ts) values))
         [] [] (sym (append-nil text)) nothing_apart
 
@@ -127,7 +129,7 @@ term_lists_read_back signature well spelled number sorts ts values within = reco
 
 one_read_back : (signature : Signature) (number sort : ℕ) (text : List ℕ) (t : Term) (terms : List WrittenTerm)
     → IsTermsReading number text terms → ((other : List WrittenTerm) → IsTermsReading number text other → other ≡ terms)
-    → AreReadBackAt signature (sort ∷ []) terms (t ∷ []) → IsReadBack signature number text sort t
+    → AreReadBackAt signature (sort ∷ []) terms (t ∷ []) → IsTermReadBack signature number text sort t
 one_read_back signature number sort text t [] is_text only are_read = absurd are_read
 one_read_back signature number sort text t (w ∷ []) is_text only are_read =
     record { written = w; is_text = is_text; only_text = only; is_read = are_read.0 }
@@ -135,7 +137,7 @@ one_read_back signature number sort text t (w ∷ (v ∷ ws)) is_text only are_r
 
 pub term_texts_read_back : TermTextsAreReadBack
 term_texts_read_back signature well spelled number sort t ground within =
-    subst (λ (text : List ℕ). IsReadBack signature number text sort t) (append-nil (entry_term_text signature t))
+    subst (λ (text : List ℕ). IsTermReadBack signature number text sort t) (append-nil (entry_term_text signature t))
     (one_read_back signature number sort (entry_term_text signature t ++ []) t back.written back.is_text back.only_text back.are_read)
   where
     small : (i : ℕ) (u : Term) → slice_get (t ∷ []) i ≡ Some u → term_depth u ≤ node_limit

@@ -8,7 +8,6 @@ use Rattle.lotos_base.specs.Term.{Term, Terms, variable, node, no_terms, term_th
 use Rattle.lotos_base.specs.WrittenTerm.{WrittenTerm, WrittenTerms, written, no_written, written_then}
 use Rattle.syntax_trees.specs.Depth.{TreeNode, node_at, before_parts, term_nodes, terms_nodes, first_deeper}
 use Rattle.sort_terms.specs.Reading.{Reads, AllRead}
-use Rattle.sort_terms.specs.ReadingOutcome.{ReadingRefusal, ComesTo, answered}
 use Rattle.specification_laws.specs.TermDepth.{term_depth, depth_among}
 use Rattle.specification_laws.proofs.DepthLemmas.{IsShallow, shallow_joined}
 
@@ -90,11 +89,3 @@ mutual
       let parts = shallow_parts limit (term_nodes depth w) (terms_nodes depth ws) none in
       both (term_depth t) (depth_among ts) (suc limit) depth (term_within signature scope limit depth w t sort reads.0 parts.0)
       (terms_within signature scope limit depth ws ts sorts reads.1 parts.1 within)
-
--- ---- What a question about a text comes to
-
--- what is answered is an answer
-pub answer_is : {A : Type 0} (found : List ReadingRefusal) (place : Place) (Answers : A → Type 0) (x : A)
-    → ComesTo found place Answers (answered x) → Answers x
-answer_is [] place Answers x h = h.is_answer
-answer_is (first ∷ rest) place Answers x h = absurd h

@@ -6,7 +6,7 @@ use Rattle.lotos_base.specs.Signature.{Sort, Operation, infix_form, IsWellFormed
 use Rattle.lotos_base.specs.Sorting.{IsGroundOf}
 use Rattle.lotos_base.specs.Term.{Term}
 use Rattle.sort_terms.proofs.WellFormedLemmas.{well_formed_test}
-use Rattle.session_histories.specs.HandedOn.{node_limit, sample_signature, a, f, plus, star, small_d, capital_d, minus}
+use Rattle.session_histories.specs.HandedOn.{node_limit, printed_sample_signature, printed_a, printed_f, printed_plus, star, small_d, capital_d, minus}
 use Rattle.specification_laws.specs.TextNames.{IsWordSpelling, IsSignSpelling, IsOperationSpelling, HasTextNames}
 use Rattle.specification_laws.specs.TermDepth.{term_depth}
 use Rattle.specification_laws.specs.SampleTexts.{SampleTextsAreReadBack}
@@ -40,7 +40,7 @@ a_word name is = inl is
 a_sign : (name : List ℕ) → IsSignSpelling name → IsOperationSpelling name
 a_sign name is = inr (inr is)
 
-operations_fine : AreFine sample_signature.operations
+operations_fine : AreFine printed_sample_signature.operations
 operations_fine = (
   (a_word (codes "a") (record { begins = refl; whole = refl; not_reserved = refl }), (λ h. cc)),
   (
@@ -76,40 +76,42 @@ operations_fine = (
   ),
 )
 
-sorts_fine : AreWords sample_signature.sorts
+sorts_fine : AreWords printed_sample_signature.sorts
 sorts_fine =
     (record { begins = refl; whole = refl; not_reserved = refl }, (record { begins = refl; whole = refl; not_reserved = refl }, tt))
 
-sample_fine : IsWellFormedSignature sample_signature
-sample_fine = well_formed_test sample_signature refl
+sample_fine : IsWellFormedSignature printed_sample_signature
+sample_fine = well_formed_test printed_sample_signature refl
 
-sample_names : HasTextNames sample_signature
+sample_names : HasTextNames printed_sample_signature
 sample_names = record {
-  operations = λ i o found. (fine_at sample_signature.operations operations_fine i o found).0;
-  sorts = word_at sample_signature.sorts sorts_fine;
-  infix_operations = λ i o found. (fine_at sample_signature.operations operations_fine i o found).1;
+  operations = λ i o found. (fine_at printed_sample_signature.operations operations_fine i o found).0;
+  sorts = word_at printed_sample_signature.sorts sorts_fine;
+  infix_operations = λ i o found. (fine_at printed_sample_signature.operations operations_fine i o found).1;
 }
 
-a_sorted : IsGroundOf sample_signature 0 a
+a_sorted : IsGroundOf printed_sample_signature 0 printed_a
 a_sorted = record { ground = tt; sorted = (_, refl, refl, tt) }
 
-small_d_sorted : IsGroundOf sample_signature 0 small_d
+small_d_sorted : IsGroundOf printed_sample_signature 0 small_d
 small_d_sorted = record { ground = tt; sorted = (_, refl, refl, tt) }
 
-capital_d_sorted : IsGroundOf sample_signature 1 capital_d
+capital_d_sorted : IsGroundOf printed_sample_signature 1 capital_d
 capital_d_sorted = record { ground = tt; sorted = (_, refl, refl, tt) }
 
-star_sorted : (t : Term) → IsGroundOf sample_signature 0 t → IsGroundOf sample_signature 0 (star t)
+star_sorted : (t : Term) → IsGroundOf printed_sample_signature 0 t → IsGroundOf printed_sample_signature 0 (star t)
 star_sorted t is = record { ground = (is.ground, tt); sorted = (_, refl, refl, (is.sorted, tt)) }
 
-f_sorted : (t : Term) → IsGroundOf sample_signature 0 t → IsGroundOf sample_signature 0 (f t)
+f_sorted : (t : Term) → IsGroundOf printed_sample_signature 0 t → IsGroundOf printed_sample_signature 0 (printed_f t)
 f_sorted t is = record { ground = (is.ground, tt); sorted = (_, refl, refl, (is.sorted, tt)) }
 
-plus_sorted : (t u : Term) → IsGroundOf sample_signature 0 t → IsGroundOf sample_signature 0 u → IsGroundOf sample_signature 0 (plus t u)
+plus_sorted : (t u : Term) → IsGroundOf printed_sample_signature 0 t → IsGroundOf printed_sample_signature 0 u
+    → IsGroundOf printed_sample_signature 0 (printed_plus t u)
 plus_sorted t u one other =
     record { ground = (one.ground, (other.ground, tt)); sorted = (_, refl, refl, (one.sorted, (other.sorted, tt))) }
 
-minus_sorted : (t u : Term) → IsGroundOf sample_signature 0 t → IsGroundOf sample_signature 0 u → IsGroundOf sample_signature 0 (minus t u)
+minus_sorted : (t u : Term) → IsGroundOf printed_sample_signature 0 t → IsGroundOf printed_sample_signature 0 u
+    → IsGroundOf printed_sample_signature 0 (minus t u)
 minus_sorted t u one other =
     record { ground = (one.ground, (other.ground, tt)); sorted = (_, refl, refl, (one.sorted, (other.sorted, tt))) }
 
@@ -122,15 +124,18 @@ pub samples_read_back : SampleTextsAreReadBack
 samples_read_back = record {
   well_formed = sample_fine;
   names = sample_names;
-  star_apart = term_texts_read_back sample_signature sample_fine sample_names 0 0 (f (star a)) (f_sorted (star a) (star_sorted a a_sorted))
+  star_apart = term_texts_read_back printed_sample_signature sample_fine sample_names 0 0 (printed_f (star printed_a))
+      (f_sorted (star printed_a) (star_sorted printed_a a_sorted))
       (omega arith);
   twins_apart =
-      term_texts_read_back sample_signature sample_fine sample_names 0 0 (plus a (plus (minus a a) small_d))
-      (plus_sorted a (plus (minus a a) small_d) a_sorted (plus_sorted (minus a a) small_d (minus_sorted a a a_sorted a_sorted)
+      term_texts_read_back printed_sample_signature sample_fine sample_names 0 0
+      (printed_plus printed_a (printed_plus (minus printed_a printed_a) small_d))
+      (plus_sorted printed_a (printed_plus (minus printed_a printed_a) small_d) a_sorted
+      (plus_sorted (minus printed_a printed_a) small_d (minus_sorted printed_a printed_a a_sorted a_sorted)
       small_d_sorted))
       (omega arith);
   listed =
-      term_lists_read_back sample_signature sample_fine sample_names 0 (0 ∷ 1 ∷ []) (small_d ∷ capital_d ∷ [])
+      term_lists_read_back printed_sample_signature sample_fine sample_names 0 (0 ∷ 1 ∷ []) (small_d ∷ capital_d ∷ [])
       (small_d_sorted, (capital_d_sorted, tt)) constants_shallow;
-  nothing = term_lists_read_back sample_signature sample_fine sample_names 0 [] [] tt (λ i t found. absurd (none-some t found));
+  nothing = term_lists_read_back printed_sample_signature sample_fine sample_names 0 [] [] tt (λ i t found. absurd (none-some t found));
 }

@@ -1,10 +1,9 @@
 -- A session whose trace has the limits of a text is one whose trace can be read.
-use Rattle.std.proofs.Common.{◌≡◌, ◌≢◌, ℕ, zero, suc, ◌≤◌, true, false, ◌||◌, nat_eq, List, [], ◌∷◌, refl, ap, sym, ◌∙◌, subst, inl}
+use Rattle.std.proofs.Common.{◌≡◌, ◌≢◌, ℕ, ◌≤◌, true, false, ◌||◌, nat_eq, List, [], ◌∷◌, refl, ap, sym, ◌∙◌, inl}
 use Rattle.std.specs.Char.{is_ascii_alphabetic}
 use Rattle.std.specs.List.{list_any}
 use Rattle.std.proofs.lemmas.Bool.{or_parts, or_from}
-use Rattle.std.specs.Prelude.{◌==◌, Some, slice_get}
-use Rattle.std.proofs.lemmas.Option.{none-some, same_Some}
+use Rattle.std.specs.Prelude.{◌==◌}
 use Rattle.lotos_base.specs.WrittenTerm.{WrittenTerm}
 use Rattle.lotos_base.specs.Signature.{Signature, Sort, Operation, IsWellFormedSignature}
 use Rattle.lotos_base.specs.Term.{Term}
@@ -12,7 +11,8 @@ use Rattle.lotos_lexer.specs.Bytes.{first_is, is_blank}
 use Rattle.behaviour_semantics.specs.Behaviour.{Behaviour, Process}
 use Rattle.behaviour_semantics.specs.Rule.{AreValues}
 use Rattle.behaviour_semantics.specs.WellFormed.{Every}
-use Rattle.behaviour_semantics.proofs.RaisedDrafts.{every_map}
+use Rattle.behaviour_semantics.proofs.EveryLemmas.{every_map, every_from}
+use Rattle.behaviour_semantics.proofs.InstanceLemmas.{every_at}
 use Rattle.session_histories.specs.HandedOn.{node_limit, commas, term_texts}
 use Rattle.specification_laws.specs.TextNames.{IsWordSpelling, IsOperationSpelling, HasTextNames}
 use Rattle.specification_laws.specs.TermDepth.{term_depth}
@@ -26,16 +26,6 @@ use Rattle.session_histories.specs.TraceLaws.{IsPlainName, HavePlainNames, ReadB
 use Rattle.session_histories.specs.BoundNames.{bound_names, names_in_bodies}
 use Rattle.session_histories.specs.TextBytes.{IsOnOneLine}
 use Rattle.specification_laws.specs.TraceReadings.{HasNamesOfText, IsWithinLine, HasTextTrace}
-
--- what holds of each member by its number holds of every member, and the other way round
-every_from : {A : Type 0} (P : A → Type 0) (xs : List A) → ((i : ℕ) (x : A) → slice_get xs i ≡ Some x → P x) → Every P xs
-every_from P [] each = tt
-every_from P (x ∷ xs) each = (each 0 x refl, every_from P xs (λ i y found. each (suc i) y found))
-
-every_at : {A : Type 0} (P : A → Type 0) (xs : List A) → Every P xs → (i : ℕ) (x : A) → slice_get xs i ≡ Some x → P x
-every_at P [] every i x found = absurd (none-some x found)
-every_at P (y ∷ ys) every zero x found = subst P (same_Some y x found) every.0
-every_at P (y ∷ ys) every (suc i) x found = every_at P ys every.1 i x found
 
 plain_name : (name : List ℕ) → IsOperationSpelling name → IsPlainName name
 plain_name name is = let plain : IsPlainSpelling name = names_are_plain name is in record
@@ -117,7 +107,7 @@ values_back signature well names values within sorts are =
     back : AreReadBack signature 0 (commas (term_texts signature values)) sorts values
     back =
         term_lists_read_back signature well names 0 sorts values are
-        (every_at (λ (t : Term). term_depth t ≤ node_limit) values within)
+        (λ k t. every_at (λ (t : Term). term_depth t ≤ node_limit) values k t within)
 
 pub is_traceable : (basis : SessionBasis) (first last : Situation) (steps : List PastStep) → HasTextTrace basis first last steps
     → IsTraceable basis first last steps

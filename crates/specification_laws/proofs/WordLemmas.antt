@@ -6,18 +6,6 @@ use Rattle.std.specs.Char.{is_ascii_alphanumeric}
 use Rattle.lotos_lexer.specs.Bytes.{first_is}
 use Rattle.lotos_lexer.specs.Lexemes.{underscore_before, word_length}
 
--- a word is no longer than the bytes, and its length is that of itself
-pub word_within : (bytes : List ℕ) → word_length bytes ≤ length bytes
-word_within [] = omega arith
-word_within (byte ∷ rest) = by (is_ascii_alphanumeric byte) (byte == 95) (word_length rest) (word_within rest)
-  where
-    by : (letter line : Bool) (n : ℕ) → n ≤ length rest
-        → (if letter then suc n else if line then underscore_before n else 0) ≤ length (byte ∷ rest)
-    by true line n h = omega arith
-    by false true zero h = omega arith
-    by false true (suc n) h = omega (arith, h)
-    by false false n h = omega arith
-
 pub word_again : (bytes : List ℕ) → word_length (take (word_length bytes) bytes) ≡ word_length bytes
 word_again [] = refl
 word_again (byte ∷ rest) = by (is_ascii_alphanumeric byte) refl (byte == 95) refl (word_length rest) refl (word_again rest)

@@ -16,7 +16,7 @@ use Rattle.lotos_base.specs.Term.{Term, Terms, variable, node, no_terms, term_th
 use Rattle.lotos_base.proofs.SignatureLemmas.{profiles_tell}
 use Rattle.sort_terms.specs.Counting.{IsOnly}
 use Rattle.sort_terms.specs.Reading.{Reads, AllRead, IsAsked, IsVisible, IsLastNamed, NoneNamed, IsOperationAt}
-use Rattle.sort_terms.specs.ReadingOutcome.{ReadingRefusal, unknown_name, unknown_sort, SortedTerm, SortedPair, answered, ComesTo, IsReading, IsPairReading, one_name, is_known, is_operation_name, is_variable_name, is_sort_name, unknown_at, unknown_sorts, unknown_in, unknown_in_each, together, in_text_order}
+use Rattle.sort_terms.specs.ReadingOutcome.{ReadingRefusal, unknown_name, unknown_sort, SortedTerm, SortedPair, answered, ComesTo, IsReading, IsPairReading, one_name, is_known, is_operation_name, is_variable_name, is_sort_name, unknown_at, unknown_sorts, unknown_in, unknown_in_each, refusals_together, in_text_order}
 use Rattle.session_histories.specs.HandedOn.{variable_text}
 use Rattle.specification_laws.specs.WrittenAs.{IsMarkOf, no_mark, mark, IsHeadOf, IsNameAlone, IsWrittenAs, AreWrittenAs}
 use Rattle.specification_laws.specs.TermMeanings.{VariableMeans, IsUnhidden, TermMeans, TermsMean}
@@ -35,14 +35,14 @@ none_behind (x ∷ xs) ys none = cc
 none_joined : (xs ys : List ReadingRefusal) → xs ≡ [] → ys ≡ [] → xs ++ ys ≡ []
 none_joined xs ys first second = ap (λ (zs : List ReadingRefusal). zs ++ ys) first ∙ second
 
-none_in_order : (form : Form) (here : List ReadingRefusal) (lists : List (List ReadingRefusal)) → here ≡ [] → together lists ≡ []
+none_in_order : (form : Form) (here : List ReadingRefusal) (lists : List (List ReadingRefusal)) → here ≡ [] → refusals_together lists ≡ []
     → in_text_order form here lists ≡ []
-none_in_order prefix_form here lists none rest = none_joined here (together lists) none rest
+none_in_order prefix_form here lists none rest = none_joined here (refusals_together lists) none rest
 none_in_order infix_form here [] none rest = none_joined here [] none refl
 none_in_order infix_form here (list ∷ lists) none rest =
-    none_joined ((list ++ []) ++ here) (together lists)
-    (none_joined (list ++ []) here (none_joined list [] (none_before list (together lists) rest) refl) none)
-    (none_behind list (together lists) rest)
+    none_joined ((list ++ []) ++ here) (refusals_together lists)
+    (none_joined (list ++ []) here (none_joined list [] (none_before list (refusals_together lists) rest) refl) none)
+    (none_behind list (refusals_together lists) rest)
 
 name_same : (one other : List ℕ) → AreOneName one other → one_name one other ≡ true
 name_same one other same = (bytes_eq-Decides (folded one) (folded other)).1 same
@@ -211,7 +211,7 @@ listed : (signature : Signature) (visible : List Variable) (w : WrittenTerm) (ws
     → HasOneReading signature visible w t s → HaveOneReading signature visible ws ts ss
     → HaveOneReading signature visible (written_then w ws) (term_then t ts) (s ∷ ss)
 listed signature visible w ws t ts s ss first rest = record {
-  known = none_joined (unknown_in signature visible w) (together (unknown_in_each signature visible ws)) first.known rest.known;
+  known = none_joined (unknown_in signature visible w) (refusals_together (unknown_in_each signature visible ws)) first.known rest.known;
   read = (first.read, rest.read);
   only_terms = terms;
   only_sorts = sorts;

@@ -10,7 +10,7 @@ use Rattle.lotos_lexer.specs.declared.kinds.TheConstants.{NAME, I, EXIT, EXCLAMA
 use Rattle.lotos_lexer.specs.declared.tokens.Token.{Token}
 use Rattle.lotos_lexer.specs.Tokens as lexed
 use Rattle.lotos_lexer.specs.Tokens.{tokens_of}
-use Rattle.lotos_rows.specs.Words.{IsOf, Many, Behind}
+use Rattle.lotos_rows.specs.Words.{IsOfKind, Many, Behind}
 use Rattle.lotos_rows.specs.Names.{named}
 use Rattle.lotos_rows.specs.Terms.{IsTerm, AreArguments}
 use Rattle.sort_terms.specs.ReadingOutcome.{ReadingIs, answered}
@@ -26,21 +26,21 @@ pub data WrittenLabel : Type 0 where
 
 -- the tokens of the text are this label
 pub data IsWrittenLabel (text : List ℕ) : List Token → WrittenLabel → Type 0 where
-  an_inner : {word : Token} → IsOf I word → IsWrittenLabel text (word ∷ []) written_inner
+  an_inner : {word : Token} → IsOfKind I word → IsWrittenLabel text (word ∷ []) written_inner
   an_event : {gate : Token} {tokens : List Token} {values : List WrittenTerm} →
-      IsOf NAME gate → Many (Behind EXCLAMATION (IsTerm text)) tokens values →
+      IsOfKind NAME gate → Many (Behind EXCLAMATION (IsTerm text)) tokens values →
       IsWrittenLabel text (gate ∷ tokens) (written_event (named text gate) values)
   an_exit : {word : Token} {tokens : List Token} {values : List WrittenTerm} →
-      IsOf EXIT word → AreArguments text tokens values → IsWrittenLabel text (word ∷ tokens) (written_exit values)
+      IsOfKind EXIT word → AreArguments text tokens values → IsWrittenLabel text (word ∷ tokens) (written_exit values)
 
 -- the written value has one reading, without variables and whatever its sort: the value
-abbrev pub IsReadAs : Signature → WrittenTerm → Term → Type 0
-IsReadAs signature w t = (sort : ℕ) × ReadingIs signature [] w None (answered (record { term = t; sort = sort }))
+abbrev pub IsValueReadAs : Signature → WrittenTerm → Term → Type 0
+IsValueReadAs signature w t = (sort : ℕ) × ReadingIs signature [] w None (answered (record { term = t; sort = sort }))
 
 -- the same of written values one by one
 abbrev pub AreReadAs : Signature → List WrittenTerm → List Term → Type 0
 AreReadAs signature [] [] = Unit {0}
-AreReadAs signature (w ∷ ws) (t ∷ ts) = IsReadAs signature w t × AreReadAs signature ws ts
+AreReadAs signature (w ∷ ws) (t ∷ ts) = IsValueReadAs signature w t × AreReadAs signature ws ts
 AreReadAs signature _ _ = ⊥
 
 -- the specification declares the gate under this name

@@ -17,7 +17,7 @@ AreReadBackAt signature (sort ∷ sorts) (w ∷ ws) (t ∷ ts) = IsReadBackAt si
 AreReadBackAt signature _ _ _ = ⊥
 
 -- The text is one written term by the grammar of lists of terms, and nothing else, and this has one reading: the term.
-pub record IsReadBack (signature : Signature) (number : ℕ) (text : List ℕ) (sort : ℕ) (t : Term) : Type 0 where
+pub record IsTermReadBack (signature : Signature) (number : ℕ) (text : List ℕ) (sort : ℕ) (t : Term) : Type 0 where
   pub written : WrittenTerm
   pub is_text : IsTermsReading number text (written ∷ [])
   pub only_text : (other : List WrittenTerm) → IsTermsReading number text other → other ≡ written ∷ []

@@ -9,14 +9,14 @@ use Rattle.behaviour_semantics.specs.Rule.{AreValues}
 use Rattle.session_histories.specs.HandedOn.{node_limit, commas, entry_term_text, term_texts}
 use Rattle.specification_laws.specs.TextNames.{IsOperationSpelling, HasTextNames}
 use Rattle.specification_laws.specs.TermDepth.{term_depth}
-use Rattle.specification_laws.specs.ReadBack.{IsReadBack, AreReadBack}
+use Rattle.specification_laws.specs.ReadBack.{IsTermReadBack, AreReadBack}
 
 -- the text of a ground term is read back as this term
 abbrev pub TermTextsAreReadBack : Type 0
 TermTextsAreReadBack =
     (signature : Signature) → IsWellFormedSignature signature → HasTextNames signature
     → (number sort : ℕ) (t : Term) → IsGroundOf signature sort t → term_depth t ≤ node_limit
-    → IsReadBack signature number (entry_term_text signature t) sort t
+    → IsTermReadBack signature number (entry_term_text signature t) sort t
 
 -- the texts of ground terms between commas are read back as these terms
 abbrev pub TermListsAreReadBack : Type 0

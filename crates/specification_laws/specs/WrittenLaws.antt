@@ -6,7 +6,7 @@ use Rattle.lotos_base.specs.Equation.{Variable}
 use Rattle.lotos_base.specs.Sorting.{IsGroundOf, HaveSorts, AreGround}
 use Rattle.lotos_base.specs.Term.{Term, Terms}
 use Rattle.sort_terms.specs.Reading.{Reads, AllRead}
-use Rattle.sort_terms.specs.ReadingOutcome.{answered, unknown_in, unknown_in_each, together, IsExpected, ReadingIs, PairReadingIs}
+use Rattle.sort_terms.specs.ReadingOutcome.{answered, unknown_in, unknown_in_each, refusals_together, IsExpected, ReadingIs, PairReadingIs}
 use Rattle.specification_laws.specs.WrittenAs.{IsWrittenAs, AreWrittenAs}
 use Rattle.specification_laws.specs.TermMeanings.{TermMeans, AreLookedUp}
 
@@ -20,7 +20,7 @@ pub record HasOneReading (signature : Signature) (visible : List Variable) (w : 
 -- the same of written terms one by one
 pub record HaveOneReading (signature : Signature) (visible : List Variable) (ws : WrittenTerms) (ts : Terms) (sorts : List ℕ)
     : Type 0 where
-  pub known : together (unknown_in_each signature visible ws) ≡ []
+  pub known : refusals_together (unknown_in_each signature visible ws) ≡ []
   pub read : AllRead signature visible ws ts sorts
   pub only_terms : (us : Terms) (others : List ℕ) → AllRead signature visible ws us others → us ≡ ts
   pub only_sorts : (us : Terms) (others : List ℕ) → AllRead signature visible ws us others → others ≡ sorts

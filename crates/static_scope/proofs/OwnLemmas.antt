@@ -9,7 +9,7 @@ use Rattle.scope_parts.specs.Numbering.{process_count}
 use Rattle.scope_parts.specs.Sorts.{sorts_if}
 use Rattle.scope_parts.specs.Definitions.{callable_of, callables}
 use Rattle.static_scope.specs.OwnCallables.{own_callable}
-use Rattle.static_scope.specs.Sizes.{BeginsAt, sizes_of, sizes_of_all}
+use Rattle.static_scope.specs.Sizes.{BeginsAt, definition_sizes, sizes_of_all}
 use Rattle.static_scope.proofs.SizeLemmas.{sized_one, begins_behind, begins_front}
 
 own_first : (signature : Signature) (n : ℕ) (x : WrittenInner) (others : WrittenInners)
@@ -32,13 +32,13 @@ own_next signature n m x others made after whole so_far are next =
 pub sizes_next : (n m : ℕ) (x : WrittenInner) (others : WrittenInners) (sizes : List ℕ) → m ≡ n + process_count x
     → BeginsAt (sizes_of_all (inner_then x others)) n sizes → BeginsAt (sizes_of_all others) m sizes
 sizes_next n m x others sizes next begins =
-    let behind = begins_behind (sizes_of x) (sizes_of_all others) n sizes begins in
-    let here : m ≡ n + length (sizes_of x) = next ∙ ap (λ (k : ℕ). n + k) (sym (sized_one x)) in
+    let behind = begins_behind (definition_sizes x) (sizes_of_all others) n sizes begins in
+    let here : m ≡ n + length (definition_sizes x) = next ∙ ap (λ (k : ℕ). n + k) (sym (sized_one x)) in
     subst (λ (k : ℕ). BeginsAt (sizes_of_all others) k sizes) (sym here) behind
 
 pub sizes_first : (n : ℕ) (x : WrittenInner) (others : WrittenInners) (sizes : List ℕ)
-    → BeginsAt (sizes_of_all (inner_then x others)) n sizes → BeginsAt (sizes_of x) n sizes
-sizes_first n x others sizes = begins_front (sizes_of x) (sizes_of_all others) n sizes
+    → BeginsAt (sizes_of_all (inner_then x others)) n sizes → BeginsAt (definition_sizes x) n sizes
+sizes_first n x others sizes = begins_front (definition_sizes x) (sizes_of_all others) n sizes
 
 pub callable_same : (signature : Signature) (n : ℕ) (heading : WrittenHeading) (name : List ℕ) (number gates : ℕ) (sorts : List (Option ℕ))
     → name ≡ heading.name → number ≡ n → gates ≡ length heading.gates → sorts ≡ sorts_if signature heading.parameters

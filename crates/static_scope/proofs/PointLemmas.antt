@@ -6,15 +6,15 @@ use Rattle.lotos_base.specs.Equation.{Variable}
 use Rattle.syntax_trees.specs.WrittenBehaviour.{WrittenBehaviour}
 use Rattle.syntax_trees.specs.WrittenDefinition.{WrittenHeading}
 use Rattle.scope_parts.specs.GatesDeclared.{Gates}
-use Rattle.scope_parts.specs.Numbering.{Numbers, spelled, gates_in, variable_count, past_own, past_heading}
+use Rattle.scope_parts.specs.Numbering.{Numbers, spelled_names, gates_in, variable_count, past_own, past_heading}
 use Rattle.scope_parts.specs.Scope.{Binding, bind_all}
 use Rattle.behaviour_semantics.specs.Behaviour.{Behaviour}
 use Rattle.scope_parts.specs.Behaviours.{BehaviourIs}
 use Rattle.scope_parts.specs.Resolution.{Resolution}
 use Rattle.scope_parts.specs.Definitions.{Heading, own_scope}
 use Rattle.scope_parts.proofs.FormedDefinitions.{length_spelled}
-use Rattle.behaviour_scopes.specs.ResolverState.{State, BehaviourStandsFor, numbers_at, passed, with_first_variables, with_last_gates}
-use Rattle.static_scope.specs.Points.{Point, point_of, numbers_of, inside, past_definition}
+use Rattle.behaviour_scopes.specs.ResolverState.{State, BehaviourStandsFor, next_numbers_at, passed, with_first_variables, with_last_gates}
+use Rattle.static_scope.specs.Points.{Point, scope_point_of, numbers_of_point, inside, past_definition}
 
 all_dropped : (gates : List Binding) → drop (length gates - 0) gates ≡ []
 all_dropped gates =
@@ -55,7 +55,7 @@ with_own gates variables state = record {
 }
 
 pub inside_is : (old between : State) (text : WrittenHeading) (heading : Heading) (gates : Gates) → between ≡ without_names old
-    → gates.visible ≡ bind_all (spelled text.gates) (length old.names) [] → gates.names ≡ old.names ++ spelled text.gates
+    → gates.visible ≡ bind_all (spelled_names text.gates) (length old.names) [] → gates.names ≡ old.names ++ spelled_names text.gates
     → length heading.parameters ≡ length text.parameters
     → with_own gates heading.parameters between ≡ inside text heading old
 inside_is old between text heading gates first visible names counted =
@@ -74,7 +74,7 @@ inside_is old between text heading gates first visible names counted =
       signature = old.signature;
       names = ns;
       scope = record {
-        gates = bind_all (spelled text.gates) (length old.names) [];
+        gates = bind_all (spelled_names text.gates) (length old.names) [];
         variables = heading.parameters;
         processes = old.scope.processes;
       };
@@ -85,9 +85,9 @@ inside_is old between text heading gates first visible names counted =
     ∙ ap
     (λ (n : ℕ). record {
       signature = old.signature;
-      names = old.names ++ spelled text.gates;
+      names = old.names ++ spelled_names text.gates;
       scope = record {
-        gates = bind_all (spelled text.gates) (length old.names) [];
+        gates = bind_all (spelled_names text.gates) (length old.names) [];
         variables = heading.parameters;
         processes = old.scope.processes;
       };
@@ -98,23 +98,23 @@ inside_is old between text heading gates first visible names counted =
 
 -- the numbers in a body, and behind a definition
 pub numbers_inside : (text : WrittenHeading) (heading : Heading) (state : State)
-    → numbers_at (inside text heading state) ≡ past_heading text (numbers_at state)
+    → next_numbers_at (inside text heading state) ≡ past_heading text (next_numbers_at state)
 numbers_inside text heading state =
     let many = length_spelled text.gates in
-    let both : length (state.names ++ spelled text.gates) ≡ length state.names + length text.gates =
-    length-append state.names (spelled text.gates) ∙ ap (λ (n : ℕ). length state.names + n) many in
+    let both : length (state.names ++ spelled_names text.gates) ≡ length state.names + length text.gates =
+    length-append state.names (spelled_names text.gates) ∙ ap (λ (n : ℕ). length state.names + n) many in
     ap (λ (n : ℕ). record { gate = n; variable = state.variable + length text.parameters; process = state.process }) both
 
 pub numbers_past : (text : WrittenHeading) (body : WrittenBehaviour) (point : Point)
-    → numbers_of (past_definition text body point) ≡ past_own text body (numbers_of point)
+    → numbers_of_point (past_definition text body point) ≡ past_own text body (numbers_of_point point)
 numbers_past text body point =
     let many = length_spelled text.gates in
-    let own : length (spelled text.gates ++ gates_in body) ≡ length (spelled text.gates) + length (gates_in body) =
-    length-append (spelled text.gates) (gates_in body) in
-    let all : length (point.names ++ (spelled text.gates ++ gates_in body))
-    ≡ length point.names + length (spelled text.gates ++ gates_in body) =
-    length-append point.names (spelled text.gates ++ gates_in body) in
-    let gate : length (point.names ++ (spelled text.gates ++ gates_in body))
+    let own : length (spelled_names text.gates ++ gates_in body) ≡ length (spelled_names text.gates) + length (gates_in body) =
+    length-append (spelled_names text.gates) (gates_in body) in
+    let all : length (point.names ++ (spelled_names text.gates ++ gates_in body))
+    ≡ length point.names + length (spelled_names text.gates ++ gates_in body) =
+    length-append point.names (spelled_names text.gates ++ gates_in body) in
+    let gate : length (point.names ++ (spelled_names text.gates ++ gates_in body))
     ≡ (length point.names + length text.gates) + length (gates_in body) =
     omega (arith, many, own, all) in
     ap
@@ -126,9 +126,9 @@ numbers_past text body point =
     gate
 
 pub definition_passed : (old mid new : State) (text : WrittenHeading) (heading : Heading) (body : WrittenBehaviour)
-    → mid ≡ inside text heading old → new ≡ passed body mid → point_of new ≡ past_definition text body (point_of old)
+    → mid ≡ inside text heading old → new ≡ passed body mid → scope_point_of new ≡ past_definition text body (scope_point_of old)
 definition_passed old mid new text heading body first later =
-    ap point_of (later ∙ ap (passed body) first)
+    ap scope_point_of (later ∙ ap (passed body) first)
     ∙ ap
     (λ (ns : List (List ℕ)). record {
       signature = old.signature;
@@ -137,12 +137,13 @@ definition_passed old mid new text heading body first later =
       variable = (old.variable + length text.parameters) + variable_count body;
       process = old.process;
     })
-    (append_assoc old.names (spelled text.gates) (gates_in body))
+    (append_assoc old.names (spelled_names text.gates) (gates_in body))
 
 pub definition_stands : (old mid : State) (text : WrittenHeading) (heading : Heading) (body : WrittenBehaviour) (o : Resolution Behaviour)
     → mid ≡ inside text heading old → BehaviourStandsFor mid body o
-    → BehaviourIs old.signature (own_scope old.scope.processes (numbers_at old) text heading) (past_heading text (numbers_at old)) body o
+    → BehaviourIs old.signature (own_scope old.scope.processes (next_numbers_at old) text heading)
+    (past_heading text (next_numbers_at old)) body o
 definition_stands old mid text heading body o same stands =
     subst
-    (λ (n : Numbers). BehaviourIs old.signature (own_scope old.scope.processes (numbers_at old) text heading) n body o)
+    (λ (n : Numbers). BehaviourIs old.signature (own_scope old.scope.processes (next_numbers_at old) text heading) n body o)
     (numbers_inside text heading old) (subst (λ (s : State). BehaviourStandsFor s body o) same stands)

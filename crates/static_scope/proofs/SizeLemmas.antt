@@ -5,10 +5,10 @@ use Rattle.std.proofs.Math.Seq.{drop-append_seam}
 use Rattle.std.proofs.lemmas.List.{append-nil, append_assoc, length-append}
 use Rattle.syntax_trees.specs.WrittenDefinition.{WrittenInner, WrittenInners, inner_item, process, no_inner, inner_then, inners_of}
 use Rattle.scope_parts.specs.Numbering.{process_count, processes_count}
-use Rattle.static_scope.specs.Sizes.{sizes_of, sizes_of_all, steps_over, steps_over_all, Uncounted, with_own_size, counted_out, with_own_open, steps_left, BeginsAt}
+use Rattle.static_scope.specs.Sizes.{definition_sizes, sizes_of_all, steps_over, steps_over_all, Uncounted, with_own_size, counted_out, with_own_open, steps_left, BeginsAt}
 
 mutual
-  pub sized_one : (inner : WrittenInner) → length (sizes_of inner) ≡ process_count inner
+  pub sized_one : (inner : WrittenInner) → length (definition_sizes inner) ≡ process_count inner
   sized_one (inner_item item) = refl
   sized_one (process heading body inner) = ap suc (sized_all inner)
 
@@ -17,15 +17,16 @@ mutual
   sized_all (inner_then inner others) =
       let first = sized_one inner in
       let rest = sized_all others in
-      length-append (sizes_of inner) (sizes_of_all others) ∙ omega (arith, first, rest)
+      length-append (definition_sizes inner) (sizes_of_all others) ∙ omega (arith, first, rest)
 
 -- ---- Counting
 
 sizes_end : (xs : List WrittenInner) (x : WrittenInner)
-    → sizes_of_all (inners_of (xs ++ x ∷ [])) ≡ sizes_of_all (inners_of xs) ++ sizes_of x
-sizes_end [] x = append-nil (sizes_of x)
+    → sizes_of_all (inners_of (xs ++ x ∷ [])) ≡ sizes_of_all (inners_of xs) ++ definition_sizes x
+sizes_end [] x = append-nil (definition_sizes x)
 sizes_end (y ∷ xs) x =
-    ap (λ (ns : List ℕ). sizes_of y ++ ns) (sizes_end xs x) ∙ sym (append_assoc (sizes_of y) (sizes_of_all (inners_of xs)) (sizes_of x))
+    ap (λ (ns : List ℕ). definition_sizes y ++ ns) (sizes_end xs x)
+    ∙ sym (append_assoc (definition_sizes y) (sizes_of_all (inners_of xs)) (definition_sizes x))
 
 steps_end : (xs : List WrittenInner) (x : WrittenInner)
     → steps_over_all (inners_of (xs ++ x ∷ [])) ≡ steps_over_all (inners_of xs) + steps_over x
@@ -51,7 +52,7 @@ last_opened (process heading body inner) xs behind others sizes =
     (λ (n : ℕ). counted_out others (with_own_size behind (sizes_of_all (inners_of xs) ++ suc n ∷ (sizes_of_all inner ++ sizes))))
     (own_size inner sizes)
     ∙ ap (λ (ns : List ℕ). counted_out others (with_own_size behind ns))
-    (sym (append_assoc (sizes_of_all (inners_of xs)) (sizes_of (process heading body inner)) sizes))
+    (sym (append_assoc (sizes_of_all (inners_of xs)) (definition_sizes (process heading body inner)) sizes))
     ∙ ap (λ (ns : List ℕ). counted_out others (with_own_size behind (ns ++ sizes))) (sym (sizes_end xs (process heading body inner)))
 
 pub fewer_steps : (x : WrittenInner) (xs : List WrittenInner) (behind : Option ℕ) (others : List Uncounted) (many : ℕ)

@@ -5,7 +5,7 @@ use Rattle.std.proofs.lemmas.List.{map-append, append-nil}
 use Rattle.syntax_trees.specs.TreeViews.{inner_list_of, inner_of}
 use Rattle.syntax_trees.specs.WrittenDefinition.{WrittenInner, inners_of}
 use Rattle.syntax_trees.specs.declared.definitions.InnerText.{InnerText}
-use Rattle.static_scope.specs.Sizes.{Uncounted, counted_out, with_own_open, with_own_size, sizes_of_all, steps_left}
+use Rattle.static_scope.specs.Sizes.{Uncounted, counted_out, with_own_open, sizes_of_all, steps_left}
 use Rattle.static_scope.specs.SizesView.{written_inners}
 use Rattle.static_scope.proofs.SizeLemmas.{last_opened, fewer_steps}
 
@@ -54,16 +54,3 @@ counting_starts inner waiting made are none =
     ap (λ (us : List Uncounted). counted_out us (reverse made)) are
     ∙ ap (λ (ns : List ℕ). counted_out (record { inners = written_inners inner; behind = None } ∷ []) (reverse ns)) none
     ∙ append-nil (sizes_of_all (written_inners inner))
-
--- a list that is counted
-pub end_counted : (list : List InnerText) (behind : Option ℕ) (others : List Uncounted) (sizes after : List ℕ) → length list ≡ 0
-    → after ≡ with_own_size behind sizes
-    → counted_out others after ≡ counted_out (record { inners = written_inners list; behind = behind } ∷ others) sizes
-end_counted list behind others sizes after none are =
-    ap (λ (ns : List ℕ). counted_out others ns) are
-    ∙ ap (λ (xs : List InnerText). counted_out (record { inners = written_inners xs; behind = behind } ∷ others) sizes)
-    (sym (none_left list none))
-
-pub end_left : (list : List InnerText) (behind : Option ℕ) (others : List Uncounted)
-    → steps_left others < steps_left (record { inners = written_inners list; behind = behind } ∷ others)
-end_left list behind others = omega arith

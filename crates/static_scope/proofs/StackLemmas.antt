@@ -1,8 +1,7 @@
 -- Stacks whose last entry is the innermost one.
-use Rattle.std.proofs.Common.{◌≡◌, ◌<◌, ◌≤◌, ℕ, ◌+◌, List, [], ◌∷◌, ◌++◌, length, drop, get_or, map, ap, sym, ◌∙◌}
+use Rattle.std.proofs.Common.{◌≡◌, ◌<◌, ℕ, ◌+◌, List, [], ◌∷◌, ◌++◌, length, drop, get_or, map, ap, sym, ◌∙◌}
 use Rattle.std.specs.Prelude.{reverse}
-use Rattle.std.proofs.lemmas.List.{map-append, reverse-append, append_assoc, append-nil}
-use Rattle.std.proofs.Math.ListN.{drop_of_length-le}
+use Rattle.std.proofs.lemmas.List.{map-append, reverse-append, append_assoc}
 use Rattle.lotos_base.proofs.Pieces.{next_member}
 
 -- one entry more, and the last one taken off
@@ -27,9 +26,3 @@ member_step whole_of f shape items i x made after whole y within is value are so
     ap (λ ys. ys ++ whole_of (drop (i + 1) items)) (are ∙ ap (λ z. made ++ z ∷ []) value)
     ∙ append_assoc made (f x ∷ []) (whole_of (drop (i + 1) items))
     ∙ ap (λ ys. made ++ ys) (sym (ap whole_of (next_member items i x within is) ∙ shape x (drop (i + 1) items))) ∙ so_far
-
--- no member is left
-pub members_end : {A B : Type 0} (whole_of : List A → List B) → whole_of [] ≡ [] → (items : List A) (i : ℕ) (made whole : List B)
-    → length items ≤ i → made ++ whole_of (drop i items) ≡ whole → made ≡ whole
-members_end whole_of none items i made whole past so_far =
-    sym (append-nil made) ∙ ap (λ ys. made ++ ys) (sym (ap whole_of (drop_of_length-le items past) ∙ none)) ∙ so_far

@@ -12,9 +12,9 @@ use Rattle.scope_parts.specs.Resolution.{Resolution, resolved, faulty}
 use Rattle.scope_parts.specs.Scope.{Callable}
 use Rattle.scope_parts.specs.Numbering.{Numbers, inners_gates, past_own}
 use Rattle.scope_parts.specs.Definitions.{Heading, DefinitionIs, InnersAre, callables, first_numbers, declared_gates, SpecificationIs}
-use Rattle.static_scope.specs.Points.{Point, numbers_of, past_definition, point_of, with_processes}
+use Rattle.static_scope.specs.Points.{Point, numbers_of_point, past_definition, scope_point_of, with_processes}
 use Rattle.static_scope.specs.Sizes.{BeginsAt}
-use Rattle.static_scope.specs.TextPlaces.{inners_places, text_places}
+use Rattle.static_scope.specs.TextPlaces.{inners_text_places, text_places}
 use Rattle.static_scope.proofs.PointLemmas.{numbers_past}
 
 abbrev pub before_text : Signature → Point
@@ -41,24 +41,24 @@ seen_outside signature text first seen start are =
 pub definition_outside : (signature : Signature) (text : WrittenSpecification) (first seen : Point)
     (o : Resolution (Heading × Behaviour)) → first ≡ before_text signature
     → seen ≡ with_processes (callables first.signature first.process (inners_of text.inner)) first
-    → DefinitionIs seen.signature seen.processes (numbers_of seen) text.heading text.body o
+    → DefinitionIs seen.signature seen.processes (numbers_of_point seen) text.heading text.body o
     → DefinitionIs signature (callables signature 0 (inners_of text.inner)) first_numbers text.heading text.body o
 definition_outside signature text first seen o start are =
-    subst (λ (p : Point). DefinitionIs p.signature p.processes (numbers_of p) text.heading text.body o)
+    subst (λ (p : Point). DefinitionIs p.signature p.processes (numbers_of_point p) text.heading text.body o)
     (seen_outside signature text first seen start are)
 
 pub inners_outside : (signature : Signature) (text : WrittenSpecification) (first seen behind : Point) (o : Resolution (List Process))
     → first ≡ before_text signature
     → seen ≡ with_processes (callables first.signature first.process (inners_of text.inner)) first
     → behind ≡ past_definition text.heading text.body seen
-    → InnersAre behind.signature behind.processes [] (numbers_of behind) (inners_of text.inner) o
+    → InnersAre behind.signature behind.processes [] (numbers_of_point behind) (inners_of text.inner) o
     → InnersAre signature (callables signature 0 (inners_of text.inner)) [] (past_own text.heading text.body first_numbers)
     (inners_of text.inner) o
 inners_outside signature text first seen behind o start are later is =
     subst
     (λ (n : Numbers). InnersAre signature (callables signature 0 (inners_of text.inner)) [] n (inners_of text.inner) o)
     (numbers_past text.heading text.body (outer_point signature text))
-    (subst (λ (p : Point). InnersAre p.signature p.processes [] (numbers_of p) (inners_of text.inner) o)
+    (subst (λ (p : Point). InnersAre p.signature p.processes [] (numbers_of_point p) (inners_of text.inner) o)
     (later ∙ ap (past_definition text.heading text.body) (seen_outside signature text first seen start are)) is)
 
 pub names_outside : (signature : Signature) (text : WrittenSpecification) (first seen behind : Point) (names : List (List ℕ))
@@ -110,7 +110,7 @@ text_value signature text d ps name names defined inner called are = (
 )
 
 pub text_places_are : (text : WrittenSpecification) (place : Place) (own others : List Place) → place ≡ text.heading.place
-    → own ≡ places_written text.body → others ≡ inners_places (inners_of text.inner) → (place ∷ own) ++ others ≡ text_places text
+    → own ≡ places_written text.body → others ≡ inners_text_places (inners_of text.inner) → (place ∷ own) ++ others ≡ text_places text
 text_places_are text place own others at here inside =
     ap (λ (p : Place). (p ∷ own) ++ others) at ∙ ap (λ (ps : List Place). (text.heading.place ∷ ps) ++ others) here
     ∙ ap (λ (ps : List Place). (text.heading.place ∷ places_written text.body) ++ ps) inside
@@ -155,5 +155,5 @@ signature_behind signature text first seen behind start are later =
     ap (λ (p : Point). p.signature) later ∙ signature_outside signature text first seen start are
 
 -- a resolver that knows nothing yet
-pub starts : (one other : Signature) (state : State) → state ≡ nothing_declared one → one ≡ other → point_of state ≡ before_text other
-starts one other state is same = ap point_of is ∙ ap before_text same
+pub starts : (one other : Signature) (state : State) → state ≡ nothing_declared one → one ≡ other → scope_point_of state ≡ before_text other
+starts one other state is same = ap scope_point_of is ∙ ap before_text same

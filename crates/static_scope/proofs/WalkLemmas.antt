@@ -16,10 +16,10 @@ use Rattle.scope_parts.specs.Resolution.{Resolution, resolved, faulty, Made}
 use Rattle.scope_parts.specs.Scope.{Binding, Callable, bind, bound_to}
 use Rattle.scope_parts.specs.Numbering.{Numbers, processes_count, own_gates, inners_gates, past_own, past_inner}
 use Rattle.scope_parts.specs.Definitions.{Heading, DefinitionIs, InnerIs, InnersAre, callables, new_process, past_name, process_with, with_name}
-use Rattle.static_scope.specs.Points.{Point, numbers_of, past_definition, past_number, with_processes}
+use Rattle.static_scope.specs.Points.{Point, numbers_of_point, past_definition, past_number, with_processes}
 use Rattle.static_scope.specs.Sizes.{BeginsAt, sizes_of_all}
-use Rattle.static_scope.specs.TextPlaces.{inners_places}
-use Rattle.static_scope.specs.Walk.{Task, outermost, TasksAre, Fit, gates_left, sizes_left, places_left, steps_of, Walk, WalkIs, AreSizesKnown, behind_those, WalkGoesOn, in_front}
+use Rattle.static_scope.specs.TextPlaces.{inners_text_places}
+use Rattle.static_scope.specs.Walk.{Task, outermost, TasksAre, Fit, gates_left, sizes_left, places_left, steps_of, Walk, WalkIs, AreSizesKnown, behind_those, WalkGoesOn, declaration_in_front}
 use Rattle.static_scope.proofs.PointLemmas.{numbers_past}
 use Rattle.static_scope.proofs.SizeLemmas.{begins_inside, begins_front, begins_so}
 
@@ -58,11 +58,6 @@ gone_on sizes first between last made more places others one two = record {
       append_assoc places others (places_left last.tasks) ∙ ap (λ (ps : List Place). places ++ ps) two.places ∙ one.places;
 }
 
--- a fault at a later step is a fault of the whole
-pub fault_there : (sizes : List ℕ) (first between : Walk) (made : List Process) (places : List Place) (f : ScopeFault)
-    → WalkGoesOn sizes first between made places → WalkIs between (faulty f) → WalkIs first (faulty f)
-fault_there sizes first between made places f on is = on.leads (faulty f) is
-
 -- ---- An item
 
 item_inners : (signature : Signature) (visible : List Callable) (before : List Binding) (numbers : Numbers) (item : WrittenItem)
@@ -73,7 +68,7 @@ item_inners signature visible before numbers item others (faulty f) is = inr ([]
 
 pub item_leads : (signature : Signature) (visible : List Callable) (numbers : Numbers) (item : WrittenItem) (task : Task)
     (tasks : List Task) (o : Resolution (List Process)) → TasksAre signature visible numbers (task ∷ tasks) o
-    → TasksAre signature visible numbers (in_front (inner_item item) task ∷ tasks) o
+    → TasksAre signature visible numbers (declaration_in_front (inner_item item) task ∷ tasks) o
 item_leads signature visible numbers item task tasks (resolved ps) is =
     (is.0, item_inners signature visible task.before numbers item task.inners (resolved is.0) is.1, is.2)
 item_leads signature visible numbers item task tasks (faulty f) (inl is) =
@@ -82,12 +77,12 @@ item_leads signature visible numbers item task tasks (faulty f) (inr is) =
     inr (is.0, item_inners signature visible task.before numbers item task.inners (resolved is.0) is.1, is.2)
 
 pub past_item : (sizes : List ℕ) (point : Point) (item : WrittenItem) (task : Task) (tasks : List Task)
-    → AreSizesKnown sizes (standing point (in_front (inner_item item) task ∷ tasks))
-    → WalkGoesOn sizes (standing point (in_front (inner_item item) task ∷ tasks)) (standing point (task ∷ tasks)) [] []
+    → AreSizesKnown sizes (standing point (declaration_in_front (inner_item item) task ∷ tasks))
+    → WalkGoesOn sizes (standing point (declaration_in_front (inner_item item) task ∷ tasks)) (standing point (task ∷ tasks)) [] []
 past_item sizes point item task tasks ready = record {
   ready = record { fit = ready.fit; sizes = ready.sizes };
   leads = λ o is.
-      item_leads point.signature point.processes (numbers_of point) item task tasks (behind_those [] o)
+      item_leads point.signature point.processes (numbers_of_point point) item task tasks (behind_those [] o)
       (subst (λ (r : Resolution (List Process)). WalkIs (standing point (task ∷ tasks)) r) (sym (behind_none o)) is);
   signature = refl;
   gates = refl;
@@ -95,7 +90,7 @@ past_item sizes point item task tasks ready = record {
 }
 
 pub item_less : (item : WrittenItem) (task : Task) (tasks : List Task)
-    → steps_of (task ∷ tasks) < steps_of (in_front (inner_item item) task ∷ tasks)
+    → steps_of (task ∷ tasks) < steps_of (declaration_in_front (inner_item item) task ∷ tasks)
 item_less item task tasks = omega arith
 
 -- ---- The end of a `where`
@@ -125,14 +120,11 @@ past_end sizes point before outside tasks ready = record {
   ready = record { fit = ready.fit.1; sizes = ready.sizes };
   leads = λ o is.
       subst (λ (r : Resolution (List Process)). WalkIs (standing point (ended before outside ∷ tasks)) r) (sym (behind_none o))
-      (end_leads point.signature point.processes (numbers_of point) before outside tasks o is);
+      (end_leads point.signature point.processes (numbers_of_point point) before outside tasks o is);
   signature = refl;
   gates = refl;
   places = refl;
 }
-
-pub end_less : (before : List Binding) (outside : ℕ) (tasks : List Task) → steps_of tasks < steps_of (ended before outside ∷ tasks)
-end_less before outside tasks = omega arith
 
 -- ---- A process
 
@@ -169,7 +161,7 @@ rest_leads : (signature : Signature) (visible : List Callable) (numbers : Number
     → Inside signature visible numbers inner task ps
     → TasksAre signature visible (past_inner inner numbers)
     (record { inners = task.inners; before = before; outside = task.outside } ∷ tasks) (faulty f)
-    → TasksAre signature visible numbers (in_front inner task ∷ tasks) (faulty f)
+    → TasksAre signature visible numbers (declaration_in_front inner task ∷ tasks) (faulty f)
 rest_leads signature visible numbers inner task tasks before ps f same first (inl is) =
     inl (inr (
       ps,
@@ -198,7 +190,8 @@ process_leads : (signature : Signature) (visible : List Callable) (numbers : Num
     → DefinitionIs signature (callables signature (suc numbers.process) inner ++ visible) (past_name numbers) heading body (resolved d)
     → TasksAre signature (callables signature (suc numbers.process) inner ++ visible) (past_own heading body (past_name numbers))
     (own_task inner visible ∷ left_task heading.name task ∷ tasks) o
-    → TasksAre signature visible numbers (in_front (process heading body inner) task ∷ tasks) (behind_those (process_with heading d ∷ []) o)
+    → TasksAre signature visible numbers (declaration_in_front (process heading body inner) task ∷ tasks)
+    (behind_those (process_with heading d ∷ []) o)
 process_leads signature visible numbers heading body inner task tasks name d (resolved ps) named defined is =
     let later =
     left_again signature (callables signature (suc numbers.process) inner) visible
@@ -248,12 +241,12 @@ fit_entered added visible task inner name tasks fit =
 
 pub past_process : (sizes : List ℕ) (point : Point) (heading : WrittenHeading) (body : WrittenBehaviour) (inner : WrittenInners)
     (task : Task) (tasks : List Task) (name : List ℕ) (made : Process)
-    → AreSizesKnown sizes (standing point (in_front (process heading body inner) task ∷ tasks))
+    → AreSizesKnown sizes (standing point (declaration_in_front (process heading body inner) task ∷ tasks))
     → resolved name ≡ new_process task.before heading
     → Made (process_with heading)
     (DefinitionIs point.signature (callables point.signature (suc point.process) inner ++ point.processes)
-    (numbers_of (past_number point)) heading body) (resolved made)
-    → WalkGoesOn sizes (standing point (in_front (process heading body inner) task ∷ tasks))
+    (numbers_of_point (past_number point)) heading body) (resolved made)
+    → WalkGoesOn sizes (standing point (declaration_in_front (process heading body inner) task ∷ tasks))
     (standing (entered heading body inner point) (own_task inner point.processes ∷ left_task heading.name task ∷ tasks))
     (made ∷ []) (heading.place ∷ places_written body)
 past_process sizes point heading body inner task tasks name made ready named defined = record {
@@ -266,9 +259,9 @@ past_process sizes point heading body inner task tasks name made ready named def
   };
   leads = λ o is.
       subst
-      (λ (p : Process). WalkIs (standing point (in_front (process heading body inner) task ∷ tasks)) (behind_those (p ∷ []) o))
+      (λ (p : Process). WalkIs (standing point (declaration_in_front (process heading body inner) task ∷ tasks)) (behind_those (p ∷ []) o))
       (sym defined.2)
-      (process_leads point.signature point.processes (numbers_of point) heading body inner task tasks name defined.0 o named defined.1
+      (process_leads point.signature point.processes (numbers_of_point point) heading body inner task tasks name defined.0 o named defined.1
       (subst
       (λ (n : Numbers). TasksAre point.signature (callables point.signature (suc point.process) inner ++ point.processes) n
       (own_task inner point.processes ∷ left_task heading.name task ∷ tasks) o)
@@ -278,26 +271,26 @@ past_process sizes point heading body inner task tasks name made ready named def
   gates =
       gates_entered point.names (own_gates heading body) (inners_gates inner) (inners_gates task.inners) (gates_left tasks);
   places =
-      places_entered (heading.place ∷ places_written body) (inners_places inner) (inners_places task.inners) (places_left tasks);
+      places_entered (heading.place ∷ places_written body) (inners_text_places inner) (inners_text_places task.inners) (places_left tasks);
 }
 
 pub process_less : (heading : WrittenHeading) (body : WrittenBehaviour) (inner : WrittenInners) (visible : List Callable) (task : Task)
     (tasks : List Task)
     → steps_of (own_task inner visible ∷ left_task heading.name task ∷ tasks)
-    < steps_of (in_front (process heading body inner) task ∷ tasks)
+    < steps_of (declaration_in_front (process heading body inner) task ∷ tasks)
 process_less heading body inner visible task tasks = omega arith
 
 -- faults at a process
 pub name_fails : (point : Point) (heading : WrittenHeading) (body : WrittenBehaviour) (inner : WrittenInners)
     (task : Task) (tasks : List Task) (f : ScopeFault) → faulty f ≡ new_process task.before heading
-    → WalkIs (standing point (in_front (process heading body inner) task ∷ tasks)) (faulty f)
+    → WalkIs (standing point (declaration_in_front (process heading body inner) task ∷ tasks)) (faulty f)
 name_fails point heading body inner task tasks f is = inl (inl (inl is))
 
 pub definition_fails : (point : Point) (heading : WrittenHeading) (body : WrittenBehaviour) (inner : WrittenInners)
     (task : Task) (tasks : List Task) (name : List ℕ) (f : ScopeFault) → resolved name ≡ new_process task.before heading
     → DefinitionIs point.signature (callables point.signature (suc point.process) inner ++ point.processes)
-    (numbers_of (past_number point)) heading body (faulty f)
-    → WalkIs (standing point (in_front (process heading body inner) task ∷ tasks)) (faulty f)
+    (numbers_of_point (past_number point)) heading body (faulty f)
+    → WalkIs (standing point (declaration_in_front (process heading body inner) task ∷ tasks)) (faulty f)
 definition_fails point heading body inner task tasks name f named is = inl (inl (inr (name, named, inl is)))
 
 -- ---- The whole `where`
@@ -328,18 +321,18 @@ ready_first sizes point inners begins = record {
 
 pub all_gone : (sizes : List ℕ) (first last : Point) (inners : WrittenInners) (made : List Process) (places : List Place)
     → WalkGoesOn sizes (standing first (first_task inners ∷ [])) (standing last []) made places
-    → InnersAre first.signature first.processes [] (numbers_of first) inners (resolved made)
+    → InnersAre first.signature first.processes [] (numbers_of_point first) inners (resolved made)
 all_gone sizes first last inners made places on =
-    one_task first.signature first.processes (numbers_of first) inners (resolved made)
+    one_task first.signature first.processes (numbers_of_point first) inners (resolved made)
     (subst (λ (ps : List Process). WalkIs (standing first (first_task inners ∷ [])) (resolved ps)) (append-nil made)
     (on.leads (resolved []) refl))
 
 pub fault_gone : (sizes : List ℕ) (first between : Point) (tasks : List Task) (inners : WrittenInners) (made : List Process)
     (places : List Place) (f : ScopeFault) → WalkGoesOn sizes (standing first (first_task inners ∷ [])) (standing between tasks) made places
     → WalkIs (standing between tasks) (faulty f)
-    → InnersAre first.signature first.processes [] (numbers_of first) inners (faulty f)
+    → InnersAre first.signature first.processes [] (numbers_of_point first) inners (faulty f)
 fault_gone sizes first between tasks inners made places f on is =
-    one_task first.signature first.processes (numbers_of first) inners (faulty f) (on.leads (faulty f) is)
+    one_task first.signature first.processes (numbers_of_point first) inners (faulty f) (on.leads (faulty f) is)
 
 pub gates_gone : (sizes : List ℕ) (first last : Point) (inners : WrittenInners) (made : List Process) (places : List Place)
     → WalkGoesOn sizes (standing first (first_task inners ∷ [])) (standing last []) made places
@@ -348,9 +341,9 @@ gates_gone sizes first last inners made places on =
     sym (append-nil last.names) ∙ on.gates ∙ ap (λ (xs : List (List ℕ)). first.names ++ xs) (append-nil (inners_gates inners))
 
 pub places_gone : (sizes : List ℕ) (first last : Point) (inners : WrittenInners) (made : List Process) (places : List Place)
-    → WalkGoesOn sizes (standing first (first_task inners ∷ [])) (standing last []) made places → places ≡ inners_places inners
+    → WalkGoesOn sizes (standing first (first_task inners ∷ [])) (standing last []) made places → places ≡ inners_text_places inners
 places_gone sizes first last inners made places on =
-    sym (append-nil places) ∙ on.places ∙ append-nil (inners_places inners)
+    sym (append-nil places) ∙ on.places ∙ append-nil (inners_text_places inners)
 
 -- ---- A process, as it is entered step by step
 
@@ -362,31 +355,33 @@ behind_name first second third inner numbered seen =
 
 pub entered_so : (sizes : List ℕ) (first second third last : Point) (heading : WrittenHeading) (body : WrittenBehaviour)
     (inner : WrittenInners) (task : Task) (tasks now : List Task) (name : List ℕ) (made : Process) (places : List Place)
-    → AreSizesKnown sizes (standing first (in_front (process heading body inner) task ∷ tasks))
+    → AreSizesKnown sizes (standing first (declaration_in_front (process heading body inner) task ∷ tasks))
     → resolved name ≡ new_process task.before heading
     → second ≡ past_number first → third ≡ with_processes (callables second.signature second.process inner) second
-    → Made (process_with heading) (DefinitionIs third.signature third.processes (numbers_of third) heading body) (resolved made)
+    → Made (process_with heading) (DefinitionIs third.signature third.processes (numbers_of_point third) heading body) (resolved made)
     → last ≡ past_definition heading body third
     → now ≡ own_task inner first.processes ∷ left_task heading.name task ∷ tasks → places ≡ heading.place ∷ places_written body
-    → WalkGoesOn sizes (standing first (in_front (process heading body inner) task ∷ tasks)) (standing last now) (made ∷ []) places
+    → WalkGoesOn sizes (standing first (declaration_in_front (process heading body inner) task ∷ tasks)) (standing last now)
+    (made ∷ []) places
 entered_so sizes first second third last heading body inner task tasks now name made places ready named numbered seen defined behind are
     at =
     let so = behind_name first second third inner numbered seen in
     let here =
     past_process sizes first heading body inner task tasks name made ready named
     (subst
-    (λ (p : Point). Made (process_with heading) (DefinitionIs p.signature p.processes (numbers_of p) heading body) (resolved made))
+    (λ (p : Point). Made (process_with heading) (DefinitionIs p.signature p.processes (numbers_of_point p) heading body) (resolved made))
     so defined) in
     subst
-    (λ (p : Point). WalkGoesOn sizes (standing first (in_front (process heading body inner) task ∷ tasks)) (standing p now) (made ∷ [])
+    (λ (p : Point). WalkGoesOn sizes (standing first (declaration_in_front (process heading body inner) task ∷ tasks))
+    (standing p now) (made ∷ [])
     places)
     (sym (behind ∙ ap (past_definition heading body) so))
     (subst
-    (λ (ts : List Task). WalkGoesOn sizes (standing first (in_front (process heading body inner) task ∷ tasks))
+    (λ (ts : List Task). WalkGoesOn sizes (standing first (declaration_in_front (process heading body inner) task ∷ tasks))
     (standing (entered heading body inner first) ts) (made ∷ []) places)
     (sym are)
     (subst
-    (λ (ps : List Place). WalkGoesOn sizes (standing first (in_front (process heading body inner) task ∷ tasks))
+    (λ (ps : List Place). WalkGoesOn sizes (standing first (declaration_in_front (process heading body inner) task ∷ tasks))
     (standing (entered heading body inner first) (own_task inner first.processes ∷ left_task heading.name task ∷ tasks)) (made ∷ []) ps)
     (sym at) here))
 
@@ -394,17 +389,17 @@ pub entering_fails : (first second third : Point) (heading : WrittenHeading) (bo
     (inner : WrittenInners) (task : Task) (tasks : List Task) (name : List ℕ) (f : ScopeFault)
     → resolved name ≡ new_process task.before heading
     → second ≡ past_number first → third ≡ with_processes (callables second.signature second.process inner) second
-    → DefinitionIs third.signature third.processes (numbers_of third) heading body (faulty f)
-    → WalkIs (standing first (in_front (process heading body inner) task ∷ tasks)) (faulty f)
+    → DefinitionIs third.signature third.processes (numbers_of_point third) heading body (faulty f)
+    → WalkIs (standing first (declaration_in_front (process heading body inner) task ∷ tasks)) (faulty f)
 entering_fails first second third heading body inner task tasks name f named numbered seen fails =
     definition_fails first heading body inner task tasks name f named
-    (subst (λ (p : Point). DefinitionIs p.signature p.processes (numbers_of p) heading body (faulty f))
+    (subst (λ (p : Point). DefinitionIs p.signature p.processes (numbers_of_point p) heading body (faulty f))
     (behind_name first second third inner numbered seen) fails)
 
 -- the sizes of what a process declares are known where it is entered
 pub own_sizes : (sizes : List ℕ) (first second : Point) (heading : WrittenHeading) (body : WrittenBehaviour) (inner : WrittenInners)
     (task : Task) (tasks : List Task) → second ≡ past_number first
-    → AreSizesKnown sizes (standing first (in_front (process heading body inner) task ∷ tasks))
+    → AreSizesKnown sizes (standing first (declaration_in_front (process heading body inner) task ∷ tasks))
     → BeginsAt (sizes_of_all inner) second.process sizes
 own_sizes sizes first second heading body inner task tasks numbered ready =
     subst (λ (p : Point). BeginsAt (sizes_of_all inner) p.process sizes) (sym numbered)
@@ -424,20 +419,22 @@ with_number number point = record {
 
 -- an item is passed over, and a `where` ends, as they stand on the walk
 pub item_gone : (sizes : List ℕ) (point : Point) (x : WrittenInner) (item : WrittenItem) (task : Task) (tasks now : List Task)
-    → x ≡ inner_item item → now ≡ task ∷ tasks → AreSizesKnown sizes (standing point (in_front x task ∷ tasks))
-    → WalkGoesOn sizes (standing point (in_front x task ∷ tasks)) (standing point now) [] []
+    → x ≡ inner_item item → now ≡ task ∷ tasks → AreSizesKnown sizes (standing point (declaration_in_front x task ∷ tasks))
+    → WalkGoesOn sizes (standing point (declaration_in_front x task ∷ tasks)) (standing point now) [] []
 item_gone sizes point x item task tasks now is are ready =
-    subst (λ (ts : List Task). WalkGoesOn sizes (standing point (in_front x task ∷ tasks)) (standing point ts) [] []) (sym are)
-    (subst (λ (y : WrittenInner). WalkGoesOn sizes (standing point (in_front y task ∷ tasks)) (standing point (task ∷ tasks)) [] [])
+    subst (λ (ts : List Task). WalkGoesOn sizes (standing point (declaration_in_front x task ∷ tasks)) (standing point ts) [] []) (sym are)
+    (subst (λ (y : WrittenInner). WalkGoesOn sizes (standing point (declaration_in_front y task ∷ tasks))
+    (standing point (task ∷ tasks)) [] [])
     (sym is)
     (past_item sizes point item task tasks
-    (subst (λ (y : WrittenInner). AreSizesKnown sizes (standing point (in_front y task ∷ tasks))) is ready)))
+    (subst (λ (y : WrittenInner). AreSizesKnown sizes (standing point (declaration_in_front y task ∷ tasks))) is ready)))
 
 pub item_steps : (x : WrittenInner) (item : WrittenItem) (task : Task) (tasks now : List Task)
-    → x ≡ inner_item item → now ≡ task ∷ tasks → steps_of now < steps_of (in_front x task ∷ tasks)
+    → x ≡ inner_item item → now ≡ task ∷ tasks → steps_of now < steps_of (declaration_in_front x task ∷ tasks)
 item_steps x item task tasks now is are =
-    subst (λ (ts : List Task). steps_of ts < steps_of (in_front x task ∷ tasks)) (sym are)
-    (subst (λ (y : WrittenInner). steps_of (task ∷ tasks) < steps_of (in_front y task ∷ tasks)) (sym is) (item_less item task tasks))
+    subst (λ (ts : List Task). steps_of ts < steps_of (declaration_in_front x task ∷ tasks)) (sym are)
+    (subst (λ (y : WrittenInner). steps_of (task ∷ tasks) < steps_of (declaration_in_front y task ∷ tasks)) (sym is)
+    (item_less item task tasks))
 
 pub end_gone : (sizes : List ℕ) (point next : Point) (task : Task) (before : List Binding) (outside : ℕ) (tasks : List Task)
     → task ≡ ended before outside → next ≡ cut_off outside point → AreSizesKnown sizes (standing point (task ∷ tasks))

@@ -19,8 +19,8 @@ use Rattle.static_scope.specs.KeptPlaces.{places_of_process, places_of_processes
 use Rattle.static_scope.specs.Points.{Point}
 use Rattle.static_scope.specs.Sizes.{BeginsAt, sizes_of_all}
 use Rattle.static_scope.specs.SizesView.{written_inners}
-use Rattle.static_scope.specs.Walk.{Task, WalkGoesOn, in_front}
-use Rattle.static_scope.specs.WalkView.{task_of, tasks_in, listed, made_of, places_of_made}
+use Rattle.static_scope.specs.Walk.{Task, WalkGoesOn, declaration_in_front}
+use Rattle.static_scope.specs.WalkView.{task_of, tasks_in, process_listed, processes_made, places_of_made}
 use Rattle.static_scope.specs.declared.frames.Frame.{Frame}
 use Rattle.static_scope.proofs.SizeSteps.{none_left}
 use Rattle.static_scope.proofs.StackLemmas.{pushed}
@@ -29,16 +29,13 @@ use Rattle.static_scope.proofs.WalkLemmas.{standing, ended, first_task, own_task
 -- the next declaration in front of those that are left
 pub task_front : (list rest : List InnerText) (first : InnerText) (before : List Binding) (outside : ℕ) → list ≡ first ∷ rest
     → record { inners = written_inners list; before = before; outside = outside }
-    ≡ in_front (inner_of first) (record { inners = written_inners rest; before = before; outside = outside })
+    ≡ declaration_in_front (inner_of first) (record { inners = written_inners rest; before = before; outside = outside })
 task_front list rest first before outside are =
     ap (λ (xs : List InnerText). record { inners = written_inners xs; before = before; outside = outside }) are
 
 pub tasks_pushed : (before after : List Frame) (frame : Frame) → after ≡ before ++ frame ∷ []
     → tasks_in after ≡ task_of frame ∷ tasks_in before
 tasks_pushed before after frame are = pushed task_of before after frame are
-
-pub no_tasks : (frames : List Frame) → frames ≡ [] → tasks_in frames ≡ []
-no_tasks frames none = ap tasks_in none
 
 -- the frames where a process was entered
 pub frames_entered : (old between new : List Frame) (left own : Frame) (task : Task) (name : List ℕ) (visible : List Callable)
@@ -61,8 +58,8 @@ own_frame rest before outside list visible are none many =
 
 -- ---- What was made
 
-pub listed_made : (made : List Process) (definition : Option Process) → map process_of (made ++ listed definition)
-    ≡ map process_of made ++ made_of definition
+pub listed_made : (made : List Process) (definition : Option Process) → map process_of (made ++ process_listed definition)
+    ≡ map process_of made ++ processes_made definition
 listed_made made None = ap (map process_of) (append-nil made) ∙ sym (append-nil (map process_of made))
 listed_made made (Some p) = map-append process_of made (p ∷ [])
 
@@ -74,12 +71,12 @@ places_append (q ∷ made) p =
     ∙ sym (append_assoc (places_of_process q) (places_of_processes made) (places_of_process p))
 
 pub listed_places : (made : List Process) (definition : Option Process)
-    → places_of_processes (made ++ listed definition) ≡ places_of_processes made ++ places_of_made definition
+    → places_of_processes (made ++ process_listed definition) ≡ places_of_processes made ++ places_of_made definition
 listed_places made None = ap places_of_processes (append-nil made) ∙ sym (append-nil (places_of_processes made))
 listed_places made (Some p) = places_append made p
 
 pub listed_every : (P : Process → Type 0) (made : List Process) (definition : Option Process) → Every P made
-    → ((p : Process) → definition ≡ Some p → P p) → Every P (made ++ listed definition)
+    → ((p : Process) → definition ≡ Some p → P p) → Every P (made ++ process_listed definition)
 listed_every P made None first later = subst (Every P) (sym (append-nil made)) first
 listed_every P made (Some p) first later = every_both P made (p ∷ []) first (later p refl, tt)
 
@@ -105,15 +102,16 @@ walk_started sizes point list before after frame made none are nothing is begins
     (not_gone sizes (standing point (first_task (written_inners list) ∷ [])) (ready_first sizes point (written_inners list) begins)))
 
 pub walk_stepped : (sizes : List ℕ) (first now next : Point) (inners : WrittenInners) (popped before after : List Frame) (frame : Frame)
-    (made more : List Process) (definition : Option Process) → before ≡ popped ++ frame ∷ [] → more ≡ made ++ listed definition
+    (made more : List Process) (definition : Option Process) → before ≡ popped ++ frame ∷ [] → more ≡ made ++ process_listed definition
     → Since sizes first inners now (tasks_in before) (map process_of made) (places_of_processes made)
-    → WalkGoesOn sizes (standing now (task_of frame ∷ tasks_in popped)) (standing next (tasks_in after)) (made_of definition)
+    → WalkGoesOn sizes (standing now (task_of frame ∷ tasks_in popped)) (standing next (tasks_in after)) (processes_made definition)
     (places_of_made definition)
     → Since sizes first inners next (tasks_in after) (map process_of more) (places_of_processes more)
 walk_stepped sizes first now next inners popped before after frame made more definition are added since step =
     let whole =
     gone_on sizes (standing first (first_task inners ∷ [])) (standing now (task_of frame ∷ tasks_in popped))
-    (standing next (tasks_in after)) (map process_of made) (made_of definition) (places_of_processes made) (places_of_made definition)
+    (standing next (tasks_in after)) (map process_of made) (processes_made definition) (places_of_processes made)
+    (places_of_made definition)
     (subst
     (λ (ts : List Task). Since sizes first inners now ts (map process_of made) (places_of_processes made))
     (tasks_pushed popped before frame are) since)
@@ -122,7 +120,7 @@ walk_stepped sizes first now next inners popped before after frame made more def
     (λ (ps : List plain.Process). Since sizes first inners next (tasks_in after) ps (places_of_processes more))
     (sym (ap (map process_of) added ∙ listed_made made definition))
     (subst
-    (λ (ps : List Place). Since sizes first inners next (tasks_in after) (map process_of made ++ made_of definition) ps)
+    (λ (ps : List Place). Since sizes first inners next (tasks_in after) (map process_of made ++ processes_made definition) ps)
     (sym (ap places_of_processes added ∙ listed_places made definition)) whole)
 
 pub walk_ended : (sizes : List ℕ) (first now : Point) (inners : WrittenInners) (frames : List Frame) (made : List plain.Process)

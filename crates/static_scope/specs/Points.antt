@@ -4,9 +4,9 @@ use Rattle.lotos_base.specs.Signature.{Signature}
 use Rattle.syntax_trees.specs.WrittenBehaviour.{WrittenBehaviour}
 use Rattle.syntax_trees.specs.WrittenDefinition.{WrittenHeading}
 use Rattle.scope_parts.specs.Scope.{Callable}
-use Rattle.scope_parts.specs.Numbering.{Numbers, spelled, own_gates, variable_count}
+use Rattle.scope_parts.specs.Numbering.{Numbers, spelled_names, own_gates, variable_count}
 use Rattle.scope_parts.specs.Definitions.{Heading, own_scope}
-use Rattle.behaviour_scopes.specs.ResolverState.{State, numbers_at}
+use Rattle.behaviour_scopes.specs.ResolverState.{State, next_numbers_at}
 
 -- The signature, the names of the gates that were declared so far, the processes that are visible, and the numbers of the
 -- next variable and the next process.
@@ -17,8 +17,8 @@ pub record Point : Type 0 where
   pub variable : ℕ
   pub process : ℕ
 
-abbrev pub point_of : State → Point
-point_of state = record {
+abbrev pub scope_point_of : State → Point
+scope_point_of state = record {
   signature = state.signature;
   names = state.names;
   processes = state.scope.processes;
@@ -27,15 +27,15 @@ point_of state = record {
 }
 
 -- the numbers that the next gate, variable and process get
-abbrev pub numbers_of : Point → Numbers
-numbers_of point = record { gate = length point.names; variable = point.variable; process = point.process }
+abbrev pub numbers_of_point : Point → Numbers
+numbers_of_point point = record { gate = length point.names; variable = point.variable; process = point.process }
 
 -- what is known in a body
 abbrev pub inside : WrittenHeading → Heading → State → State
 inside heading resolved_heading state = record {
   signature = state.signature;
-  names = state.names ++ spelled heading.gates;
-  scope = own_scope state.scope.processes (numbers_at state) heading resolved_heading;
+  names = state.names ++ spelled_names heading.gates;
+  scope = own_scope state.scope.processes (next_numbers_at state) heading resolved_heading;
   variable = state.variable + length heading.parameters;
   process = state.process;
 }

@@ -1,5 +1,5 @@
 -- Processes as they are written.
-use Rattle.syntax_trees.specs.TreeViews.{heading_of, behaviour_of, inner_list_of}
+use Rattle.syntax_trees.specs.TreeViews.{heading_of, written_behaviour_of, inner_list_of}
 use Rattle.syntax_trees.specs.WrittenDefinition.{WrittenHeading, WrittenInner, process, inners_of}
 use Rattle.syntax_trees.specs.declared.definitions.ProcessText.{ProcessText}
 
@@ -10,4 +10,4 @@ process_heading text = heading_of text.place text.name text.gates.items text.par
 -- a process as it is written, with what its `where` declares
 abbrev pub written_definition : ProcessText → WrittenInner
 written_definition text =
-    process (process_heading text) (behaviour_of text.body) (inners_of (inner_list_of text.inner.items))
+    process (process_heading text) (written_behaviour_of text.body) (inners_of (inner_list_of text.inner.items))

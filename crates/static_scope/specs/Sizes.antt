@@ -5,13 +5,13 @@ use Rattle.scope_parts.specs.Numbering.{processes_count}
 
 abbrev mutual
   -- for each process, in the order of the text, how many processes it declares, itself among them
-  pub sizes_of : WrittenInner → List ℕ
-  sizes_of (inner_item item) = []
-  sizes_of (process heading body inner) = suc (processes_count inner) ∷ sizes_of_all inner
+  pub definition_sizes : WrittenInner → List ℕ
+  definition_sizes (inner_item item) = []
+  definition_sizes (process heading body inner) = suc (processes_count inner) ∷ sizes_of_all inner
 
   pub sizes_of_all : WrittenInners → List ℕ
   sizes_of_all no_inner = []
-  sizes_of_all (inner_then inner others) = sizes_of inner ++ sizes_of_all others
+  sizes_of_all (inner_then inner others) = definition_sizes inner ++ sizes_of_all others
 
 abbrev mutual
   -- how many steps it takes to go over what a `where` declares, at any depth

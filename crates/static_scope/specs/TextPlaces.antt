@@ -7,14 +7,14 @@ use Rattle.behaviour_scopes.specs.Places.{places_written}
 
 abbrev mutual
   -- of what a `where` declares
-  pub inner_places : WrittenInner → List Place
-  inner_places (inner_item item) = []
-  inner_places (process heading body inner) = (heading.place ∷ places_written body) ++ inners_places inner
+  pub inner_text_places : WrittenInner → List Place
+  inner_text_places (inner_item item) = []
+  inner_text_places (process heading body inner) = (heading.place ∷ places_written body) ++ inners_text_places inner
 
-  pub inners_places : WrittenInners → List Place
-  inners_places no_inner = []
-  inners_places (inner_then inner others) = inner_places inner ++ inners_places others
+  pub inners_text_places : WrittenInners → List Place
+  inners_text_places no_inner = []
+  inners_text_places (inner_then inner others) = inner_text_places inner ++ inners_text_places others
 
 -- of a text
 abbrev pub text_places : WrittenSpecification → List Place
-text_places text = (text.heading.place ∷ places_written text.body) ++ inners_places (inners_of text.inner)
+text_places text = (text.heading.place ∷ places_written text.body) ++ inners_text_places (inners_of text.inner)

@@ -8,9 +8,9 @@ use Rattle.scope_parts.specs.Resolution.{Resolution, resolved, faulty, Is, ThenR
 use Rattle.scope_parts.specs.Scope.{Binding, Callable}
 use Rattle.scope_parts.specs.Numbering.{Numbers, inners_gates, past_inners}
 use Rattle.scope_parts.specs.Definitions.{InnersAre}
-use Rattle.static_scope.specs.Points.{Point, numbers_of}
+use Rattle.static_scope.specs.Points.{Point, numbers_of_point}
 use Rattle.static_scope.specs.Sizes.{BeginsAt, sizes_of_all, steps_over_all}
-use Rattle.static_scope.specs.TextPlaces.{inners_places}
+use Rattle.static_scope.specs.TextPlaces.{inners_text_places}
 
 -- What is left of a `where`, the names of its processes before that, and how many processes are visible outside of it.
 pub record Task : Type 0 where
@@ -46,7 +46,7 @@ sizes_left (task ∷ tasks) = sizes_of_all task.inners ++ sizes_left tasks
 
 abbrev pub places_left : List Task → List Place
 places_left [] = []
-places_left (task ∷ tasks) = inners_places task.inners ++ places_left tasks
+places_left (task ∷ tasks) = inners_text_places task.inners ++ places_left tasks
 
 abbrev pub steps_of : List Task → ℕ
 steps_of [] = 0
@@ -58,7 +58,7 @@ pub record Walk : Type 0 where
   pub tasks : List Task
 
 abbrev pub WalkIs : Walk → Resolution (List Process) → Type 0
-WalkIs walk = TasksAre walk.point.signature walk.point.processes (numbers_of walk.point) walk.tasks
+WalkIs walk = TasksAre walk.point.signature walk.point.processes (numbers_of_point walk.point) walk.tasks
 
 -- the sizes are known where the walk stands
 pub record AreSizesKnown (counts : List ℕ) (walk : Walk) : Type 0 where
@@ -79,5 +79,5 @@ pub record WalkGoesOn (counts : List ℕ) (old new : Walk) (made : List Process)
   pub places : kept ++ places_left new.tasks ≡ places_left old.tasks
 
 -- with one more declaration in front
-abbrev pub in_front : WrittenInner → Task → Task
-in_front inner task = record { inners = inner_then inner task.inners; before = task.before; outside = task.outside }
+abbrev pub declaration_in_front : WrittenInner → Task → Task
+declaration_in_front inner task = record { inners = inner_then inner task.inners; before = task.before; outside = task.outside }

@@ -28,13 +28,13 @@ abbrev pub walk_at : Resolver → List Task → Walk
 walk_at resolver tasks = record { point = point_in resolver; tasks = tasks }
 
 -- a process that was made, if one was
-abbrev pub listed : Option Process → List Process
-listed None = []
-listed (Some made) = made ∷ []
+abbrev pub process_listed : Option Process → List Process
+process_listed None = []
+process_listed (Some made) = made ∷ []
 
-abbrev pub made_of : Option Process → List plain.Process
-made_of None = []
-made_of (Some made) = process_of made ∷ []
+abbrev pub processes_made : Option Process → List plain.Process
+processes_made None = []
+processes_made (Some made) = process_of made ∷ []
 
 abbrev pub places_of_made : Option Process → List Place
 places_of_made None = []

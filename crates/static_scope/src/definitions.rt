@@ -8,14 +8,14 @@ ghost use Rattle.behaviour_tree.specs.DefinitionView.{process_of};
 ghost use Rattle.behaviour_tree.specs.Over.{AreTermsOf};
 ghost use Rattle.static_scope.specs.HeadingView.{heading_in, written_heading};
 ghost use Rattle.static_scope.specs.ProcessView.{process_heading};
-ghost use Rattle.static_scope.specs.Points.{numbers_of, past_definition};
+ghost use Rattle.static_scope.specs.Points.{numbers_of_point, past_definition};
 ghost use Rattle.static_scope.specs.PointsView.{point_in};
 ghost use Rattle.static_scope.specs.KeptPlaces.{places_of_process};
 ghost use Rattle.scope_parts.specs.Definitions.{DefinitionIs, process_with};
 ghost use Rattle.scope_parts.specs.FaultView.{Answers};
 ghost use Rattle.scope_parts.specs.Resolution.{Made};
 ghost use Rattle.std.specs.Prelude.{◌≡◌, ◌∷◌, IfOk, OnOk};
-ghost use Rattle.syntax_trees.specs.TreeViews.{behaviour_of as written_behaviour};
+ghost use Rattle.syntax_trees.specs.TreeViews.{written_behaviour_of as written_behaviour};
 
 use crate::heading_parts::{Heading, HeadingText};
 use crate::headings::resolved_heading;
@@ -35,7 +35,7 @@ pub fn definition(
 ) -> Result<(Heading, Beh), ScopeFault>
     ensures read { Answers (λ made. (heading_in made.0, behaviour_of made.1)) result
         (DefinitionIs (point_in resolver.old).signature (point_in resolver.old).processes
-        (numbers_of (point_in resolver.old)) (written_heading text.entry)
+        (numbers_of_point (point_in resolver.old)) (written_heading text.entry)
         (written_behaviour body.now)) }
     ensures passed { OnOk result (point_in resolver.new
         ≡ past_definition (written_heading text.entry) (written_behaviour body.now)
@@ -58,7 +58,7 @@ pub fn process(
 ) -> Result<Process, ScopeFault>
     ensures read { Answers process_of result (Made (process_with (process_heading text.now))
         (DefinitionIs (point_in resolver.old).signature (point_in resolver.old).processes
-        (numbers_of (point_in resolver.old)) (process_heading text.now)
+        (numbers_of_point (point_in resolver.old)) (process_heading text.now)
         (written_behaviour text.now.body))) }
     ensures passed { OnOk result (point_in resolver.new ≡ past_definition
         (process_heading text.now) (written_behaviour text.now.body) (point_in resolver.old)) }

@@ -7,11 +7,11 @@ ghost use Rattle.scope_parts.specs.Definitions.{formal_gates as formal_gates_of}
 ghost use Rattle.scope_parts.specs.FaultView.{Answers};
 ghost use Rattle.scope_parts.specs.GatesDeclared.{declared};
 ghost use Rattle.scope_parts.specs.GatesView.{gates_in};
-ghost use Rattle.scope_parts.specs.Numbering.{spelled};
+ghost use Rattle.scope_parts.specs.Numbering.{spelled_names};
 ghost use Rattle.scope_parts.specs.Resolution.{Is, resolved};
 ghost use Rattle.scope_parts.specs.Sorts.{functionality_at};
 ghost use Rattle.std.specs.Prelude.{◌≡◌, IfOk, OnOk, length};
-ghost use Rattle.syntax_trees.specs.TreeViews.{functionality_of, placed_names_of};
+ghost use Rattle.syntax_trees.specs.TreeViews.{written_functionality_of, placed_names_of};
 
 use lotos_base::NoMemory;
 use scope_parts::ScopeFault;
@@ -32,7 +32,7 @@ pub fn declare_all(
     ensures numbers { IfOk result (λ made. made.items ≡ numbers_from
         (length (gates_in table.old).names) (placed_names_of texts.now.items)) }
     ensures declared { OnOk result (gates_in table.new
-        ≡ declared (spelled (placed_names_of texts.now.items)) (gates_in table.old)) }
+        ≡ declared (spelled_names (placed_names_of texts.now.items)) (gates_in table.old)) }
 {
     let mut numbers = Vec::with_capacity(alloc, texts.len())?;
     for (_, name) in texts {
@@ -51,7 +51,7 @@ fn gates_declared(
     ensures read { Answers (λ made. made.items) result (Is (resolved (numbers_from
         (length (gates_in table.old).names) (placed_names_of texts.now.items)))) }
     ensures declared { OnOk result (gates_in table.new
-        ≡ declared (spelled (placed_names_of texts.now.items)) (gates_in table.old)) }
+        ≡ declared (spelled_names (placed_names_of texts.now.items)) (gates_in table.old)) }
 {
     let numbers = declare_all(alloc, table, texts)?;
     Ok(numbers)
@@ -66,7 +66,7 @@ pub fn formal_gates(
     ensures read { Answers (λ made. made.items) result (Is (formal_gates_of
         (length (gates_in table.old).names) (placed_names_of texts.now.items))) }
     ensures declared { OnOk result (gates_in table.new
-        ≡ declared (spelled (placed_names_of texts.now.items)) (gates_in table.old)) }
+        ≡ declared (spelled_names (placed_names_of texts.now.items)) (gates_in table.old)) }
 {
     let double = first_double(alloc, texts)?;
     beside(double, gates_declared(alloc, table, texts))
@@ -79,7 +79,7 @@ pub fn functionality(
     text: &Option<Vec<Named>>,
 ) -> Result<Option<Vec<u32>>, ScopeFault>
     ensures { Answers resolved_functionality result (Is (functionality_at
-        (signature_read reader.now) (functionality_of text.now))) }
+        (signature_read reader.now) (written_functionality_of text.now))) }
 {
     match text {
         None => Ok(None),

@@ -1,6 +1,6 @@
 //! Headings of definitions.
 
-ghost use Rattle.behaviour_scopes.specs.ResolverState.{numbers_at};
+ghost use Rattle.behaviour_scopes.specs.ResolverState.{next_numbers_at};
 ghost use Rattle.behaviour_scopes.specs.ResolverView.{state_in};
 ghost use Rattle.static_scope.specs.HeadingView.{heading_in, written_heading};
 ghost use Rattle.static_scope.specs.Points.{inside};
@@ -23,7 +23,7 @@ pub fn resolved_heading(
     text: HeadingText,
 ) -> Result<Heading, ScopeFault>
     ensures read { Answers heading_in result (Is (heading_at (state_in resolver.old).signature
-        (numbers_at (state_in resolver.old)) (written_heading text.entry))) }
+        (next_numbers_at (state_in resolver.old)) (written_heading text.entry))) }
     ensures seen { IfOk result (λ made. state_in resolver.new
         ≡ inside (written_heading text.entry) (heading_in made) (state_in resolver.old)) }
 {

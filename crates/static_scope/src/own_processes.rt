@@ -3,7 +3,7 @@
 ghost use Rattle.static_scope.specs.CallableList.{callables_in};
 ghost use Rattle.static_scope.specs.ProcessView.{process_heading};
 ghost use Rattle.static_scope.specs.OwnCallables.{own_callable};
-ghost use Rattle.static_scope.specs.Sizes.{BeginsAt, sizes_of, sizes_of_all};
+ghost use Rattle.static_scope.specs.Sizes.{BeginsAt, definition_sizes, sizes_of_all};
 ghost use Rattle.static_scope.specs.SizesView.{written_inners};
 ghost use Rattle.sort_terms.specs.ReaderView.{signature_read};
 ghost use Rattle.scope_parts.specs.CallablesView.{callable_in};
@@ -12,7 +12,7 @@ ghost use Rattle.scope_parts.specs.Numbering.{process_count};
 ghost use Rattle.scope_parts.specs.ProcessesView.{processes_in};
 ghost use Rattle.scope_parts.specs.Sorts.{sorts_if as sorts_if_of};
 ghost use Rattle.std.specs.Prelude.{◌≡◌, ◌+◌, ◌++◌, IfOk, OnOk};
-ghost use Rattle.syntax_trees.specs.TreeViews.{inner_of, variables_of};
+ghost use Rattle.syntax_trees.specs.TreeViews.{inner_of, written_variables_of};
 
 use lotos_base::NoMemory;
 use scope_parts::callable::Callable;
@@ -82,7 +82,7 @@ fn add_own(
     number: usize,
     declared: &InnerText,
 ) -> Result<usize, NoMemory>
-    requires { BeginsAt (sizes_of (inner_of declared.now)) number sizes.now.items }
+    requires { BeginsAt (definition_sizes (inner_of declared.now)) number sizes.now.items }
     ensures next { IfOk result (λ next. next ≡ number + process_count (inner_of declared.now)) }
     ensures added { OnOk result (callables_in made.new.items ≡ callables_in made.old.items
         ++ own_callable (signature_read reader.now) number (inner_of declared.now)) }
@@ -127,7 +127,7 @@ fn sorts_if(
     texts: &Vec<VarText>,
 ) -> Result<Vec<Option<u32>>, NoMemory>
     ensures { IfOk result (λ made. made.items
-        ≡ sorts_if_of (signature_read reader.now) (variables_of texts.now.items)) }
+        ≡ sorts_if_of (signature_read reader.now) (written_variables_of texts.now.items)) }
 {
     let mut made = Vec::with_capacity(alloc, texts.len())?;
     for text in texts {

@@ -13,7 +13,7 @@ ghost use Rattle.scope_parts.specs.TextOrder.{PlacesRise};
 ghost use Rattle.scope_parts.specs.FaultView.{Answers, FaultIs};
 ghost use Rattle.scope_parts.specs.GateLists.{TextHasGateLists};
 ghost use Rattle.std.specs.Prelude.{◌≡◌, IfErr, IfOk, map};
-ghost use Rattle.syntax_trees.specs.TreeViews.{specification_of as written_specification};
+ghost use Rattle.syntax_trees.specs.TreeViews.{written_specification_of as written_specification};
 
 use crate::declaring::declare;
 use crate::definitions::definition;

@@ -7,16 +7,16 @@ ghost use Rattle.behaviour_tree.specs.Over.{AreTermsOf};
 ghost use Rattle.behaviour_tree.specs.declared.definitions.Process.{Process};
 ghost use Rattle.behaviour_semantics.specs.WellFormed.{Every};
 ghost use Rattle.static_scope.specs.ProcessView.{process_heading, written_definition};
-ghost use Rattle.static_scope.specs.Points.{numbers_of};
+ghost use Rattle.static_scope.specs.Points.{numbers_of_point};
 ghost use Rattle.static_scope.specs.PointsView.{point_in};
 ghost use Rattle.static_scope.specs.Sizes.{BeginsAt, sizes_of_all};
 ghost use Rattle.static_scope.specs.SizesView.{written_inners};
 ghost use Rattle.static_scope.specs.KeptPlaces.{places_of_process, places_of_processes};
-ghost use Rattle.static_scope.specs.TextPlaces.{inners_places};
-ghost use Rattle.static_scope.specs.Walk.{WalkGoesOn, AreSizesKnown, WalkIs, in_front, steps_of};
+ghost use Rattle.static_scope.specs.TextPlaces.{inners_text_places};
+ghost use Rattle.static_scope.specs.Walk.{WalkGoesOn, AreSizesKnown, WalkIs, declaration_in_front, steps_of};
 ghost use Rattle.static_scope.specs.WalkView.{
-  listed,
-  made_of,
+  process_listed,
+  processes_made,
   places_of_made,
   task_of,
   tasks_in,
@@ -66,13 +66,13 @@ pub fn processes(
         (point_in resolver.old).process sizes.now.items }
     ensures read { Answers (λ made. map process_of made.items) result (InnersAre
         (point_in resolver.old).signature (point_in resolver.old).processes []
-        (numbers_of (point_in resolver.old)) (written_inners inner.now)) }
+        (numbers_of_point (point_in resolver.old)) (written_inners inner.now)) }
     ensures names { OnOk result ((point_in resolver.new).names
         ≡ (point_in resolver.old).names ++ inners_gates (written_inners inner.now)) }
     ensures profiles { IfOk result (λ made. Every (λ (p : Process). AreTermsOf
         (point_in resolver.old).signature (profiles_in p.body)) made.items) }
     ensures places { IfOk result (λ made. places_of_processes made.items
-        ≡ inners_places (written_inners inner.now)) }
+        ≡ inners_text_places (written_inners inner.now)) }
 {
     let mut made = Vec::new(alloc);
     let mut stack = Vec::new(alloc);
@@ -90,7 +90,7 @@ pub fn processes(
 
 // Adds the process, if there is one.
 fn add(made: &mut Vec<Process>, definition: Option<Process>) -> Result<(), NoMemory>
-    ensures { OnOk result (made.new.items ≡ made.old.items ++ listed definition) }
+    ensures { OnOk result (made.new.items ≡ made.old.items ++ process_listed definition) }
 {
     if let Some(definition) = definition {
         made.push(definition)?;
@@ -110,7 +110,7 @@ fn go_on<'t>(
         (walk_at resolver.old (task_of frame ∷ tasks_in stack.old.items)) }
     ensures on { IfOk result (λ made. WalkGoesOn sizes.now.items
         (walk_at resolver.old (task_of frame.entry ∷ tasks_in stack.old.items))
-        (walk_at resolver.new (tasks_in stack.new.items)) (made_of made)
+        (walk_at resolver.new (tasks_in stack.new.items)) (processes_made made)
         (places_of_made made)) }
     ensures less { OnOk result (steps_of (tasks_in stack.new.items)
         < steps_of (task_of frame.entry ∷ tasks_in stack.old.items)) }
@@ -145,18 +145,18 @@ fn next_declared<'t>(
     first: &'t InnerText,
 ) -> Result<Option<Process>, ScopeFault>
     requires { AreSizesKnown sizes.now.items (walk_at resolver.old
-        (in_front (inner_of first.now) (task_of left) ∷ tasks_in stack.old.items)) }
+        (declaration_in_front (inner_of first.now) (task_of left) ∷ tasks_in stack.old.items)) }
     ensures on { IfOk result (λ made. WalkGoesOn sizes.now.items
-        (walk_at resolver.old (in_front (inner_of first.now) (task_of left.entry)
+        (walk_at resolver.old (declaration_in_front (inner_of first.now) (task_of left.entry)
         ∷ tasks_in stack.old.items)) (walk_at resolver.new (tasks_in stack.new.items))
-        (made_of made) (places_of_made made)) }
+        (processes_made made) (places_of_made made)) }
     ensures less { OnOk result (steps_of (tasks_in stack.new.items)
-        < steps_of (in_front (inner_of first.now) (task_of left.entry)
+        < steps_of (declaration_in_front (inner_of first.now) (task_of left.entry)
         ∷ tasks_in stack.old.items)) }
     ensures profiles { IfOk result (λ made. ForSome made (λ (p : Process). AreTermsOf
         (point_in resolver.old).signature (profiles_in p.body))) }
     ensures fault { IfErr result (λ fault. FaultIs fault (λ f. WalkIs (walk_at resolver.old
-        (in_front (inner_of first.now) (task_of left.entry) ∷ tasks_in stack.old.items))
+        (declaration_in_front (inner_of first.now) (task_of left.entry) ∷ tasks_in stack.old.items))
         (faulty f))) }
 {
     match first {
@@ -181,19 +181,20 @@ fn enter<'t>(
     text: &'t ProcessText,
 ) -> Result<Process, ScopeFault>
     requires { AreSizesKnown sizes.now.items (walk_at resolver.old
-        (in_front (written_definition text.now) (task_of left)
+        (declaration_in_front (written_definition text.now) (task_of left)
         ∷ tasks_in stack.old.items)) }
     ensures on { IfOk result (λ made. WalkGoesOn sizes.now.items
-        (walk_at resolver.old (in_front (written_definition text.now) (task_of left.entry)
+        (walk_at resolver.old
+        (declaration_in_front (written_definition text.now) (task_of left.entry)
         ∷ tasks_in stack.old.items)) (walk_at resolver.new (tasks_in stack.new.items))
         (process_of made ∷ []) (places_of_process made)) }
     ensures less { OnOk result (steps_of (tasks_in stack.new.items)
-        < steps_of (in_front (written_definition text.now) (task_of left.entry)
+        < steps_of (declaration_in_front (written_definition text.now) (task_of left.entry)
         ∷ tasks_in stack.old.items)) }
     ensures profiles { IfOk result (λ made. AreTermsOf (point_in resolver.old).signature
         (profiles_in made.body)) }
     ensures fault { IfErr result (λ fault. FaultIs fault (λ f. WalkIs (walk_at resolver.old
-        (in_front (written_definition text.now) (task_of left.entry)
+        (declaration_in_front (written_definition text.now) (task_of left.entry)
         ∷ tasks_in stack.old.items)) (faulty f))) }
 {
     let before = with_name(alloc, left.before, text)?;

@@ -7,14 +7,14 @@ use Rattle.std.proofs.lemmas.List.{append-nil}
 use Rattle.std.proofs.lemmas.Option.{none-some}
 use Rattle.lotos_base.specs.Signature.{Signature}
 use Rattle.lotos_base.specs.Term.{Term, variable}
-use Rattle.lotos_base.specs.Sorting.{IsGround, IsGroundOf, sort_of}
+use Rattle.lotos_base.specs.Sorting.{IsGround, IsGroundOf, head_sort_of}
 use Rattle.lotos_base.specs.Equation.{Variable}
 use Rattle.lotos_base.specs.Substitution.{Substitution, binding, is_listed, without}
 use Rattle.lotos_base.proofs.SortLemmas.{sort_of_sorted}
 use Rattle.behaviour_semantics.specs.Behaviour.{Behaviour, Specification, numbers_of, sorts_of}
 use Rattle.behaviour_semantics.specs.ClosingLaws.{AreGroundPairs}
 use Rattle.behaviour_semantics.specs.Replacement.{binding_of, with_values}
-use Rattle.behaviour_semantics.specs.Rule.{AreValues, have_sorts, is_same_sort}
+use Rattle.behaviour_semantics.specs.Rule.{AreValues, have_sorts, is_same_known_sort}
 use Rattle.behaviour_semantics.specs.WellFormed.{Every, sort_in}
 use Rattle.behaviour_semantics.proofs.ClosedTargets.{IsValue}
 use Rattle.behaviour_semantics.proofs.EnvironmentLemmas.{environments_in_turn}
@@ -27,7 +27,7 @@ use Rattle.behaviour_tree.specs.BehaviourTerms.{profiles_of}
 use Rattle.behaviour_tree.specs.BehaviourView.{terms_of, variables_of}
 use Rattle.behaviour_tree.specs.Closed.{AreGroundValues, IsClosedBy, IsFree, IsGivenOnce}
 use Rattle.behaviour_tree.specs.Over.{AreTermsOf}
-use Rattle.behaviour_tree.specs.StateView.{environment_of, number_of, pair_of, pair_profile}
+use Rattle.behaviour_tree.specs.StateView.{environment_of, number_of, environment_pair_of, pair_profile}
 use Rattle.behaviour_tree.proofs.FreeLemmas.{free_in_scope}
 use Rattle.behaviour_tree.proofs.StartLemmas.{environment_zip}
 use Rattle.step_parts.specs.TargetNodes.{IsAccepting, unbound}
@@ -137,17 +137,19 @@ kept_given numbers (pair ∷ pairs) bound n s left absent given =
         given_later n s pair (unbound numbers pairs ++ bound) other (rest other)
 
 -- ---- Values of the sorts of variables
-same_sort : (signature : Signature) (t : Term) (s r : ℕ) → IsGroundOf signature r t → is_same_sort (sort_of signature t) (Some s) ≡ true
+same_sort : (signature : Signature) (t : Term) (s r : ℕ) → IsGroundOf signature r t
+    → is_same_known_sort (head_sort_of signature t) (Some s) ≡ true
     → r ≡ s
-same_sort signature t s r h e = eqb-true r s (subst (λ (o : _). is_same_sort o (Some s) ≡ true) (sort_of_sorted signature t r h.sorted) e)
+same_sort signature t s r h e =
+    eqb-true r s (subst (λ (o : _). is_same_known_sort o (Some s) ≡ true) (sort_of_sorted signature t r h.sorted) e)
 
 pub sorted_values : (signature : Signature) (values : List Term) (variables : List Variable) → Every (IsValue signature) values
     → have_sorts signature values (sorts_of variables) ≡ true → AreValues signature (sorts_of variables) values
 sorted_values signature [] [] h e = tt
 sorted_values signature (v ∷ values) (x ∷ variables) h e = (
   subst (λ (s : ℕ). IsGroundOf signature s v)
-      (same_sort signature v x.sort h.0.0 h.0.1 (first_so (is_same_sort (sort_of signature v) (Some x.sort)) _ e)) h.0.1,
-  sorted_values signature values variables h.1 (second_so (is_same_sort (sort_of signature v) (Some x.sort)) _ e),
+      (same_sort signature v x.sort h.0.0 h.0.1 (first_so (is_same_known_sort (head_sort_of signature v) (Some x.sort)) _ e)) h.0.1,
+  sorted_values signature values variables h.1 (second_so (is_same_known_sort (head_sort_of signature v) (Some x.sort)) _ e),
 )
 sorted_values signature [] (x ∷ variables) h e = absurd (cc e)
 sorted_values signature (v ∷ values) [] h e = absurd (cc e)
@@ -171,9 +173,9 @@ module _ (bound : List Bound) (environment : List (ℕ × Sorted)) (values : Lis
       (is : made ≡ left ++ zip (map number_of bound) values) where
     pub made_same : environment_of made ≡ environment_of accepted_pairs
     made_same =
-        ap environment_of is ∙ (map_joined pair_of left (zip (map number_of bound) values)
+        ap environment_of is ∙ (map_joined environment_pair_of left (zip (map number_of bound) values)
         ∙ (ap (λ (xs : List (ℕ × Term)). xs ++ environment_of (zip (map number_of bound) values)) same
-        ∙ sym (map_joined pair_of (unbound numbers environment) (zip (map number_of bound) values))))
+        ∙ sym (map_joined environment_pair_of (unbound numbers environment) (zip (map number_of bound) values))))
 
     pub made_terms : map pair_profile made ≡ map pair_profile accepted_pairs
     made_terms =
@@ -192,7 +194,7 @@ module _ (bound : List Bound) (environment : List (ℕ × Sorted)) (values : Lis
       (with_values (without numbers (binding (environment_of environment))) b)
   accepted_puts b ground =
       ap (λ (xs : List (ℕ × Term)). with_values (binding xs) b)
-      (map_joined pair_of (unbound numbers environment) (zip (map number_of bound) values)
+      (map_joined environment_pair_of (unbound numbers environment) (zip (map number_of bound) values)
       ∙ ap (λ (xs : List (ℕ × Term)). environment_of (unbound numbers environment) ++ xs) (environment_zip bound values))
       ∙ (sym (environments_in_turn (environment_of (unbound numbers environment)) (zip numbers (terms_of values)) b
       (ground_pairs (unbound numbers environment)

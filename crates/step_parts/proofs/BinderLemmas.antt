@@ -16,7 +16,7 @@ use Rattle.sort_terms.specs.SortedView.{profiled_in, term_in}
 use Rattle.sort_terms.specs.declared.sorted.Sorted.{Sorted}
 use Rattle.behaviour_tree.specs.Closed.{AreGroundValues, IsClosedBy, IsGivenOnce}
 use Rattle.behaviour_tree.specs.Over.{AreTermsOf}
-use Rattle.behaviour_tree.specs.StateView.{environment_of, pair_of, pair_profile}
+use Rattle.behaviour_tree.specs.StateView.{environment_of, environment_pair_of, pair_profile}
 use Rattle.behaviour_tree.proofs.FreeLemmas.{free_in_scope}
 use Rattle.behaviour_tree.proofs.StartLemmas.{told_sort}
 
@@ -133,7 +133,7 @@ absent_bound n variables terms [] e h = tt
 absent_bound n [] terms (pair ∷ pairs) e h = absurd (cc e)
 absent_bound n (x ∷ variables) [] (pair ∷ pairs) e h = absurd (cc e)
 absent_bound n (x ∷ variables) (t ∷ terms) (pair ∷ pairs) e h =
-    let head : pair_of pair ≡ (x.number, t) = cc e in
+    let head : environment_pair_of pair ≡ (x.number, t) = cc e in
     let tail : environment_of pairs ≡ zip (numbers_of variables) terms = cc e in (
       (λ same. h zero (ap (λ (m : ℕ). Some m) (sym (ap (λ (p : ℕ × Term). p.0) head) ∙ same))),
       absent_bound n variables terms pairs tail (λ k at. h (suc k) at),
@@ -164,7 +164,7 @@ module _ (signature : Signature) (n s : ℕ) where
       by (nat_eq x.number n) refl found
       (λ at. bound_given variables terms pairs (cc e) of.1 h.1 (distinct_rest x.number (numbers_of variables) distinct) at)
     where
-      head : pair_of pair ≡ (x.number, t)
+      head : environment_pair_of pair ≡ (x.number, t)
       head = cc e
 
       tail : environment_of pairs ≡ zip (numbers_of variables) terms
@@ -195,7 +195,7 @@ bound_ground signature variables terms [] e h = tt
 bound_ground signature [] terms (pair ∷ pairs) e h = absurd (cc e)
 bound_ground signature (x ∷ variables) [] (pair ∷ pairs) e h = absurd h
 bound_ground signature (x ∷ variables) (t ∷ terms) (pair ∷ pairs) e h =
-    let head : pair_of pair ≡ (x.number, t) = cc e in
+    let head : environment_pair_of pair ≡ (x.number, t) = cc e in
     let tail : environment_of pairs ≡ zip (numbers_of variables) terms = cc e in (
       subst (λ (u : Term). IsGround u) (sym (ap (λ (p : ℕ × Term). p.1) head)) h.0.ground,
       bound_ground signature variables terms pairs tail h.1,

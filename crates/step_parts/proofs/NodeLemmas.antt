@@ -2,7 +2,6 @@
 use Rattle.std.proofs.Common.{◌≡◌, ◌<◌, ◌+◌, ◌++◌, ℕ, suc, List, [], ◌∷◌, map, length, drop, get_or, Bool, true, false, cond, append_assoc, Option, None, Some, Vec, Global, refl, ap, sym, ◌∙◌, subst, add-one}
 use Rattle.std.specs.declared.rc.Rc.{Rc}
 use Rattle.std.specs.Prelude.{filter, not}
-use Rattle.std.proofs.Math.Path.{fun_ext}
 use Rattle.std.proofs.Math.Seq.{drop-cons}
 use Rattle.std.proofs.lemmas.List.{append-nil}
 use Rattle.std.proofs.lemmas.Option.{none-some, same_Some}
@@ -28,19 +27,17 @@ use Rattle.behaviour_tree.specs.Over.{AreTermsOf}
 use Rattle.behaviour_tree.specs.StateView.{environment_of, node_profiles, pair_profile, stands_for}
 use Rattle.behaviour_tree.specs.declared.behaviours.Beh as beh
 use Rattle.behaviour_tree.specs.declared.states.Node.{Node, Stop, Part, Call, Parallel', Hide', Enable', Disable', Relabel, Relabel'}
+use Rattle.behaviour_instances.proofs.NothingLemmas.{nothing_put}
 use Rattle.step_parts.specs.Beside.{HasClosedRest, StandsBeside, rest_profiles}
 use Rattle.step_parts.specs.TargetNodes.{HasClosedParts, is_lacking, stands_apart}
 use Rattle.step_parts.proofs.BinderLemmas.{nothing_free}
 
 -- ---- Parts without values
 
-put_nothing : binding [] ≡ variable
-put_nothing = fun_ext (λ n. fun_ext (λ s. refl))
-
 pub no_values : (pairs : List (ℕ × Sorted)) (b : Behaviour) → pairs ≡ [] → with_values (binding (environment_of pairs)) b ≡ b
 no_values pairs b e =
     ap (λ (ps : List (ℕ × Sorted)). with_values (binding (environment_of ps)) b) e
-    ∙ (ap (λ (v : Substitution). with_values v b) put_nothing ∙ unchanged b)
+    ∙ (ap (λ (v : Substitution). with_values v b) nothing_put ∙ unchanged b)
 
 pub no_pair_terms : (signature : Signature) (terms : List ProfiledTerm) (pairs : List (ℕ × Sorted)) → pairs ≡ []
     → AreTermsOf signature terms → AreTermsOf signature (terms ++ map pair_profile pairs)

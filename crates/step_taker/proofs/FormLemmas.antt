@@ -10,7 +10,7 @@ use Rattle.behaviour_semantics.specs.Replacement.{binding_of, with_values}
 use Rattle.behaviour_semantics.specs.Shape.{at_gate, called, enabled, guarded, hidden, left_side, let_bound, passed, relabelled, right_side, Shape, with_value}
 use Rattle.step_taker.proofs.RowLemmas.{handed_on, mapped_on}
 use Rattle.step_taker.specs.Rows.{alone_row, asks_nothing, disabling_row, enabling_row, free_row, hiding_row, passing_row, relabelling_row, same_row}
-use Rattle.step_taker.specs.Stands.{fault_at, HasRow, move_at, Row, stand, Stand}
+use Rattle.step_taker.specs.Stands.{fault_at_stand, HasRow, move_at, Row, stand, Stand}
 
 module _ (setting : Setting) (leaves : List Term) (s : Shape) (n k : ℕ) where
   abbrev Has : Stand → Stand → Row → Type 0
@@ -83,7 +83,8 @@ module _ (setting : Setting) (leaves : List Term) (s : Shape) (n k : ℕ) where
       (relabelling_row ((g, a) ∷ []))
   gate_row position g gates b a e = record {
     fault = ap (λ (o : Option ℕ). first_of_two (at_node n (unless_there (option_map (λ (a : ℕ). b) o)))
-        (first_of_two (option_and_then (λ (c : Behaviour). fault_at setting leaves (stand c s (suc n) k)) (option_map (λ (a : ℕ). b) o))
+        (first_of_two (option_and_then (λ (c : Behaviour). fault_at_stand setting leaves (stand c s (suc n) k))
+        (option_map (λ (a : ℕ). b) o))
         (at_node n (option_and_then (λ (m : Move). asks_nothing m.label)
         (option_and_then (λ (c : Behaviour). move_at setting leaves (stand c s (suc n) k)) (option_map (λ (a : ℕ). b) o)))))) e;
     move = ap (option_and_then (λ (a : ℕ). option_map (relabelling ((g, a) ∷ [])) (move_at setting leaves (stand b s (suc n) k)))) e
@@ -99,7 +100,8 @@ module _ (setting : Setting) (leaves : List Term) (s : Shape) (n k : ℕ) where
       (relabelling_row (zip process.gates gates))
   call_row number gates arguments process e = record {
     fault = ap (λ (o : Option Process). first_of_two (at_node n (unless_there (option_map (body_of arguments) o)))
-        (first_of_two (option_and_then (λ (c : Behaviour). fault_at setting leaves (stand c s (suc n) k)) (option_map (body_of arguments)
+        (first_of_two (option_and_then (λ (c : Behaviour). fault_at_stand setting leaves (stand c s (suc n) k))
+        (option_map (body_of arguments)
         o))
         (at_node n (option_and_then (λ (m : Move). asks_nothing m.label)
         (option_and_then (λ (c : Behaviour). move_at setting leaves (stand c s (suc n) k)) (option_map (body_of arguments) o)))))) e;
@@ -114,22 +116,22 @@ module _ (setting : Setting) (leaves : List Term) (s : Shape) (n k : ℕ) where
 
   -- a gate and a process that are not there
   pub no_gate : (position g : ℕ) (gates : List ℕ) (b : Behaviour) → slice_get gates position ≡ None
-      → fault_at setting leaves (stand (choose_gate g gates b) (at_gate position s) n k) ≡ Some (record {
+      → fault_at_stand setting leaves (stand (choose_gate g gates b) (at_gate position s) n k) ≡ Some (record {
         node = n;
         wrong =
             not_fitting;
       })
   no_gate position g gates b e =
       ap (λ (o : Option ℕ). first_of_two (at_node n (unless_there (option_map (λ (a : ℕ). b) o)))
-      (first_of_two (option_and_then (λ (c : Behaviour). fault_at setting leaves (stand c s (suc n) k)) (option_map (λ (a : ℕ). b) o))
+      (first_of_two (option_and_then (λ (c : Behaviour). fault_at_stand setting leaves (stand c s (suc n) k)) (option_map (λ (a : ℕ). b) o))
       (at_node n (option_and_then (λ (m : Move). asks_nothing m.label)
       (option_and_then (λ (c : Behaviour). move_at setting leaves (stand c s (suc n) k)) (option_map (λ (a : ℕ). b) o)))))) e
 
   pub no_process : (number : ℕ) (gates : List ℕ) (arguments : List Term) → slice_get setting.processes number ≡ None
-      → fault_at setting leaves (stand (call number gates arguments) (called s) n k) ≡ Some (record { node = n; wrong = not_fitting })
+      → fault_at_stand setting leaves (stand (call number gates arguments) (called s) n k) ≡ Some (record { node = n; wrong = not_fitting })
   no_process number gates arguments e =
       ap (λ (o : Option Process). first_of_two (at_node n (unless_there (option_map (body_of arguments) o)))
-      (first_of_two (option_and_then (λ (c : Behaviour). fault_at setting leaves (stand c s (suc n) k)) (option_map (body_of
+      (first_of_two (option_and_then (λ (c : Behaviour). fault_at_stand setting leaves (stand c s (suc n) k)) (option_map (body_of
       arguments) o))
       (at_node n (option_and_then (λ (m : Move). asks_nothing m.label)
       (option_and_then (λ (c : Behaviour). move_at setting leaves (stand c s (suc n) k)) (option_map (body_of arguments) o)))))) e

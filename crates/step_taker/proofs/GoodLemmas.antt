@@ -17,14 +17,14 @@ use Rattle.behaviour_tree.specs.DefinitionView.{specification_of}
 use Rattle.behaviour_tree.specs.MoveView.{label_of}
 use Rattle.behaviour_tree.specs.Over.{IsSpecOver}
 use Rattle.behaviour_tree.specs.StateView.{stands_for}
-use Rattle.step_taker.specs.Stands.{fault_at, move_at, Stand}
+use Rattle.step_taker.specs.Stands.{fault_at_stand, move_at, Stand}
 use Rattle.step_taker.specs.Taken.{Ground, setting_on}
 use Rattle.step_taker.specs.Walked.{IsClosedOn, IsMoved}
 use Rattle.step_taker.specs.declared.moved.Moved.{Moved}
 
 module _ (ground : Ground) (is_canon : IsCanon ground.data_ ground.canon) (over : IsSpecOver ground.data_.signature ground.spec)
     (leaves : List Term) (place : Stand) (within : place.next ≤ length leaves) (closed : IsClosedOn ground place.behaviour) where
-  beside : Same ground.data_ leaves place.next (fault_at (setting_on ground) leaves place) (move_at (setting_on ground) leaves place)
+  beside : Same ground.data_ leaves place.next (fault_at_stand (setting_on ground) leaves place) (move_at (setting_on ground) leaves place)
   beside =
       same_faults ground.data_ (specification_of ground.spec) over.well_formed ground.canon is_canon leaves place.shape place.number
       place.next

@@ -1,7 +1,6 @@
 -- The move of a node with one part, from that of the part, rule by rule.
-use Rattle.std.proofs.Common.{◌≡◌, ℕ, ◌+◌, List, length, not, Bool, true, false, if◌then◌else◌, None, Some, refl, ap, sym, ◌∙◌, subst}
+use Rattle.std.proofs.Common.{◌≡◌, ℕ, ◌+◌, List, length, not, Bool, true, false, if◌then◌else◌, None, Some, refl, ap, sym, ◌∙◌}
 use Rattle.lotos_base.specs.Equation.{Variable}
-use Rattle.lotos_base.specs.Signature.{Signature}
 use Rattle.lotos_base.specs.Term.{Term}
 use Rattle.behaviour_semantics.specs.Behaviour.{Behaviour, enable, hide, Relabelling, SynchronisationSet, sorts_of}
 use Rattle.behaviour_semantics.specs.Fault.{ends_with, unless}
@@ -28,11 +27,6 @@ pub record IsOver (ground : Ground) (made : Moved) : Type 0 where
   pub parts : HasClosedParts made.target.value
   pub terms : AreTermsOf ground.data_.signature (node_profiles made.target.value)
   pub values : AreTermsOf ground.data_.signature (label_profiles made.label)
-
--- the values of the same label
-pub same_values : (signature : Signature) (made given : Label) → made ≡ given → AreTermsOf signature (label_profiles given)
-    → AreTermsOf signature (label_profiles made)
-same_values signature made given e h = subst (λ (l : Label). AreTermsOf signature (label_profiles l)) (sym e) h
 
 module _ (ground : Ground) (leaves : List Term) (whole part : Stand) (below : IsPartBelow whole part) (moved : Moved)
     (m : IsMoved ground leaves part moved) (made : Moved) (behind : made.behind ≡ moved.behind) (over : IsOver ground made) where

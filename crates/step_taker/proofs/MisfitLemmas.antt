@@ -8,7 +8,7 @@ use Rattle.behaviour_semantics.specs.Move.{Move, move_of, opened, Setting}
 use Rattle.behaviour_semantics.specs.Rule.{copies}
 use Rattle.behaviour_semantics.specs.Shape.{act, at_gate, both_sides, called, enabled, guarded, hidden, inner_step, left_side, let_bound, passed, quit, relabelled, right_side, Shape, with_value}
 use Rattle.behaviour_semantics.proofs.OpenedLemmas.{move_of-copies, opened-copies}
-use Rattle.step_taker.specs.Stands.{fault_at, move_at, stand}
+use Rattle.step_taker.specs.Stands.{fault_at_stand, move_at, stand}
 
 own_first : (node : Node) (faults : Behaviour → Option Fault) (moves : Behaviour → Option Move) → node.own ≡ Some not_fitting
     → one_part node faults moves ≡ Some (record { node = node.number; wrong = not_fitting })
@@ -23,7 +23,7 @@ not_both setting n k sides _ e = refl
 
 module _ (setting : Setting) (leaves : List Term) where
   pub misfits : (s : Shape) (n k : ℕ) (b : Behaviour) → own_wrong setting leaves s k (opened b) ≡ Some not_fitting
-      → fault_at setting leaves (stand b s n k) ≡ Some (record { node = n; wrong = not_fitting })
+      → fault_at_stand setting leaves (stand b s n k) ≡ Some (record { node = n; wrong = not_fitting })
   misfits act n k b e = ap (at_node n) e
   misfits quit n k b e = ap (at_node n) e
   misfits inner_step n k b e = ap (at_node n) e
@@ -74,7 +74,8 @@ module _ (setting : Setting) (leaves : List Term) where
     moves_of_copies s n k = move_of-copies setting (leaves_in leaves) s k g gates meet b
 
     pub faults_of_copies : (s : Shape) (n k : ℕ)
-        → fault_at setting leaves (stand (copies g gates meet b) s n k) ≡ fault_at setting leaves (stand (par_gate g gates meet b) s n k)
+        → fault_at_stand setting leaves (stand (copies g gates meet b) s n k)
+        ≡ fault_at_stand setting leaves (stand (par_gate g gates meet b) s n k)
     faults_of_copies act n k = ap (λ (o : Behaviour). at_node n (act_wrong setting leaves k o)) (opened-copies g gates meet b)
     faults_of_copies quit n k = ap (λ (o : Behaviour). at_node n (quit_wrong setting leaves k o)) (opened-copies g gates meet b)
     faults_of_copies inner_step n k = ap (λ (o : Behaviour). at_node n (inner_wrong o)) (opened-copies g gates meet b)

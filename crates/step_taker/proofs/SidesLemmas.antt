@@ -6,7 +6,7 @@ use Rattle.behaviour_semantics.specs.Fault.{at_node, Fault, first_of_two, first_
 use Rattle.behaviour_semantics.specs.Move.{Move, Setting, together}
 use Rattle.behaviour_semantics.specs.Rule.{label_values, move_together, pairwise}
 use Rattle.behaviour_semantics.specs.Shape.{both_sides, Shape}
-use Rattle.step_taker.specs.Stands.{fault_at, move_at, stand, Stand}
+use Rattle.step_taker.specs.Stands.{fault_at_stand, move_at, stand, Stand}
 
 module _ (setting : Setting) (leaves : List Term) (meet : SynchronisationSet) (b c : Behaviour) (s t : Shape) (n k : ℕ) where
   abbrev whole : Stand
@@ -24,35 +24,36 @@ module _ (setting : Setting) (leaves : List Term) (meet : SynchronisationSet) (b
 
   abbrev first : Option Fault → Option Move → Option Fault
   first faults moves =
-      first_of_two faults (option_and_then (λ (m : Move). first_of_two (fault_at setting leaves (right m))
+      first_of_two faults (option_and_then (λ (m : Move). first_of_two (fault_at_stand setting leaves (right m))
       (at_node n (asked m (move_at setting leaves (right m))))) moves)
 
-  pub left_fault : (f : Fault) → fault_at setting leaves left ≡ Some f → fault_at setting leaves whole ≡ Some f
+  pub left_fault : (f : Fault) → fault_at_stand setting leaves left ≡ Some f → fault_at_stand setting leaves whole ≡ Some f
   left_fault f e = ap (λ (faults : Option Fault). first faults (move_at setting leaves left)) e
 
-  module _ (none : fault_at setting leaves left ≡ None) (m : Move) (moves : move_at setting leaves left ≡ Some m) where
-    beside : fault_at setting leaves whole ≡ first_of_two (fault_at setting leaves (right m)) (at_node n (asked m (move_at setting leaves
+  module _ (none : fault_at_stand setting leaves left ≡ None) (m : Move) (moves : move_at setting leaves left ≡ Some m) where
+    beside : fault_at_stand setting leaves whole ≡ first_of_two (fault_at_stand setting leaves (right m))
+        (at_node n (asked m (move_at setting leaves
         (right m))))
     beside =
         ap (λ (faults : Option Fault). first faults (move_at setting leaves left)) none ∙ ap (λ (o : Option Move). first None o) moves
 
-    pub right_fault : (f : Fault) → fault_at setting leaves (right m) ≡ Some f → fault_at setting leaves whole ≡ Some f
+    pub right_fault : (f : Fault) → fault_at_stand setting leaves (right m) ≡ Some f → fault_at_stand setting leaves whole ≡ Some f
     right_fault f e =
         beside ∙ ap (λ (faults : Option Fault). first_of_two faults (at_node n (asked m (move_at setting leaves (right m))))) e
 
-    module _ (right_none : fault_at setting leaves (right m) ≡ None) (o : Move) (others : move_at setting leaves (right m) ≡ Some o)
+    module _ (right_none : fault_at_stand setting leaves (right m) ≡ None) (o : Move) (others : move_at setting leaves (right m) ≡ Some o)
       where
-        matched : fault_at setting leaves whole ≡ at_node n (match_wrong setting meet m.label o.label)
+        matched : fault_at_stand setting leaves whole ≡ at_node n (match_wrong setting meet m.label o.label)
         matched =
             beside ∙ ap (λ (faults : Option Fault). first_of_two faults (at_node n (asked m (move_at setting leaves (right m)))))
             right_none
             ∙ ap (λ (moves : Option Move). at_node n (asked m moves)) others
 
         pub match_fault : (w : Wrong) → match_wrong setting meet m.label o.label ≡ Some w
-            → fault_at setting leaves whole ≡ Some (record { node = n; wrong = w })
+            → fault_at_stand setting leaves whole ≡ Some (record { node = n; wrong = w })
         match_fault w e = matched ∙ ap (at_node n) e
 
-        pub none_matched : match_wrong setting meet m.label o.label ≡ None → fault_at setting leaves whole ≡ None
+        pub none_matched : match_wrong setting meet m.label o.label ≡ None → fault_at_stand setting leaves whole ≡ None
         none_matched e = matched ∙ ap (at_node n) e
 
         abbrev pub joined : Move

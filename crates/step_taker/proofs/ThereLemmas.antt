@@ -11,7 +11,7 @@ use Rattle.step_parts.specs.declared.faults.At.{At}
 use Rattle.step_parts.specs.declared.faults.StepFault.{StepFault}
 use Rattle.step_parts.specs.declared.faults.StepFault.TheVariants as step_fault
 use Rattle.step_parts.proofs.CheckedLemmas.{no_memory, unless_more}
-use Rattle.step_taker.specs.Stands.{fault_at, stand, Stand}
+use Rattle.step_taker.specs.Stands.{fault_at_stand, stand, Stand}
 use Rattle.step_taker.specs.Taken.{Ground, setting_on}
 use Rattle.step_taker.specs.Walked.{IsPartBelow, IsFirstStepFault, IsMoved, IsThere, IsWalked}
 use Rattle.step_taker.specs.declared.moved.Moved.{Moved}
@@ -66,7 +66,8 @@ module _ (ground : Ground) (leaves : List Term) (place : Stand) (b : Behaviour) 
 
   -- a part that is not there
   pub absent_there : (fault : StepFault)
-      → fault_at (setting_on ground) leaves (stand b s place.number at.leaf) ≡ Some (record { node = place.number; wrong = not_fitting })
+      → fault_at_stand (setting_on ground) leaves (stand b s place.number at.leaf)
+      ≡ Some (record { node = place.number; wrong = not_fitting })
       → ((n : ℕ) → at.node ≡ kept_number n → TellsWrong n not_fitting fault) → UnlessMemory (IsFirstStepFault ground leaves place) fault
   absent_there fault e told =
       there_refused fault (told_fault ground leaves (stand b s place.number at.leaf) not_fitting fault e (told place.number there.node))

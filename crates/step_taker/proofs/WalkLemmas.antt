@@ -14,7 +14,7 @@ use Rattle.step_parts.specs.StepFaults.{IsWrongTold, kept_number, TellsWrong, Un
 use Rattle.step_parts.specs.TargetNodes.{HasClosedParts}
 use Rattle.step_parts.specs.declared.faults.StepFault.{StepFault}
 use Rattle.step_parts.proofs.CheckedLemmas.{unless_more, unless_told}
-use Rattle.step_taker.specs.Stands.{fault_at, HasRow, Row, stand, Stand}
+use Rattle.step_taker.specs.Stands.{fault_at_stand, HasRow, Row, stand, Stand}
 use Rattle.step_taker.specs.Taken.{Ground, setting_on}
 use Rattle.step_taker.specs.Walked.{IsPartBelow, IsFirstStepFault, IsMoved, IsWalked}
 use Rattle.step_taker.specs.declared.moved.Moved.{Moved}
@@ -29,7 +29,7 @@ same_place place b s k e f h =
 
 -- a refusal that tells the fault of a node
 pub told_fault : (ground : Ground) (leaves : List Term) (place : Stand) (w : Wrong) (fault : StepFault)
-    → fault_at (setting_on ground) leaves place ≡ Some (record { node = place.number; wrong = w }) → TellsWrong place.number w fault
+    → fault_at_stand (setting_on ground) leaves place ≡ Some (record { node = place.number; wrong = w }) → TellsWrong place.number w fault
     → UnlessMemory (IsFirstStepFault ground leaves place) fault
 told_fault ground leaves place w fault is told =
     unless_told (IsFirstStepFault ground leaves place) fault (record {

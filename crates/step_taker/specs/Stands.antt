@@ -20,8 +20,8 @@ abbrev pub stand : Behaviour → Shape → ℕ → ℕ → Stand
 stand behaviour shape number next = record { behaviour = behaviour; shape = shape; number = number; next = next }
 
 -- its first fault, and its move
-abbrev pub fault_at : Setting → List Term → Stand → Option Fault
-fault_at setting leaves at = fault_from setting leaves at.shape at.number at.next at.behaviour
+abbrev pub fault_at_stand : Setting → List Term → Stand → Option Fault
+fault_at_stand setting leaves at = fault_from setting leaves at.shape at.number at.next at.behaviour
 
 abbrev pub move_at : Setting → List Term → Stand → Option Move
 move_at setting leaves at = move_of setting (leaves_in leaves) at.shape at.next at.behaviour
@@ -34,7 +34,7 @@ pub record Row : Type 0 where
 
 -- The node has this part, and its rule is this one.
 pub record HasRow (setting : Setting) (leaves : List Term) (whole part : Stand) (row : Row) : Type 0 where
-  pub fault : fault_at setting leaves whole ≡ first_of_two (at_node whole.number row.own)
-      (first_of_two (fault_at setting leaves part)
+  pub fault : fault_at_stand setting leaves whole ≡ first_of_two (at_node whole.number row.own)
+      (first_of_two (fault_at_stand setting leaves part)
       (at_node whole.number (option_and_then (λ (m : Move). row.label m.label) (move_at setting leaves part))))
   pub move : move_at setting leaves whole ≡ option_and_then row.after (move_at setting leaves part)

@@ -26,7 +26,7 @@ use Rattle.step_parts.specs.TargetNodes.{HasClosedParts}
 use Rattle.step_parts.specs.declared.faults.At.{At}
 use Rattle.step_parts.specs.declared.faults.StepFault.{StepFault}
 use Rattle.step_taker.specs.Sides.{followed, following_profiles, IsFollowing, IsSideState, side_of, side_profiles}
-use Rattle.step_taker.specs.Stands.{fault_at, HasRow, move_at, Row, Stand}
+use Rattle.step_taker.specs.Stands.{fault_at_stand, HasRow, move_at, Row, Stand}
 use Rattle.step_taker.specs.Taken.{Ground, setting_on}
 use Rattle.step_taker.specs.declared.moved.Moved.{Moved}
 use Rattle.step_taker.specs.declared.sides.Following.{Following}
@@ -44,7 +44,7 @@ pub record IsThere (place : Stand) (b : Behaviour) (shape : plain.Shape) (at : A
 pub record IsMoved (base : Ground) (leaves : List Term) (place : Stand) (moved : Moved) : Type 0 where
   pub move : Move
   pub is : move_at (setting_on base) leaves place ≡ Some move
-  pub faultless : fault_at (setting_on base) leaves place ≡ None
+  pub faultless : fault_at_stand (setting_on base) leaves place ≡ None
   pub label : label_of moved.label ≡ move.label
   pub target : stands_for moved.target.value ≡ move.target
   pub node_behind : moved.behind.node ≡ kept_number (place.number + size place.shape)
@@ -56,7 +56,7 @@ pub record IsMoved (base : Ground) (leaves : List Term) (place : Stand) (moved :
 -- The refusal tells the first fault of the part.
 pub record IsFirstStepFault (base : Ground) (leaves : List Term) (place : Stand) (fault : StepFault) : Type 0 where
   pub first : Fault
-  pub is : fault_at (setting_on base) leaves place ≡ Some first
+  pub is : fault_at_stand (setting_on base) leaves place ≡ Some first
   pub told : TellsFault first fault
 
 -- The answer is the move of the part, or its first fault.

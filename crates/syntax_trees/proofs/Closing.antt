@@ -3,7 +3,7 @@ use Rattle.std.proofs.Common.{◌≡◌, ◌∙◌, inl, inr, ℕ, ◌<◌, ◌�
 use Rattle.std.specs.Prelude.{All, Some, length}
 use Rattle.std.proofs.lemmas.List.{append-nil, map-append}
 use Rattle.std.proofs.lemmas.List.Elements.{All-nil, All-cons, All-head, All-tail, All-append, All-map}
-use Rattle.syntax_trees.specs.Grouping.{Leftmost, closed, in_front, leftmost}
+use Rattle.syntax_trees.specs.Grouping.{Leftmost, closed, sign_in_front, leftmost_grouping}
 use Rattle.syntax_trees.specs.Waiting.{EndsWeaker, Takes, StrengthRises, grouped_onto}
 use Rattle.syntax_trees.proofs.Groupings.{stays, all_closed, more_is, Among, more}
 
@@ -78,7 +78,7 @@ module _ {W S A : Type 0} (strength : S → ℕ) (join : S → A → A → A) (v
   binding w = strength (view w).0
 
   stay_before : (sign : S) (after : List W) (behind : List (S × A)) (first : A) → All (λ w. binding w < strength sign) after →
-      in_front strength join sign (map view after ++ behind) first ≡ map view after ++ in_front strength join sign behind first
+      sign_in_front strength join sign (map view after ++ behind) first ≡ map view after ++ sign_in_front strength join sign behind first
   stay_before sign [] behind first weaker = refl
   stay_before sign (w ∷ after) behind first weaker =
       stays strength join sign (view w) (map view after ++ behind) first (All-head (λ w. binding w < strength sign) w after weaker)
@@ -93,11 +93,11 @@ module _ {W S A : Type 0} (strength : S → ℕ) (join : S → A → A → A) (v
   pub put_in_front : (sign : S) (before after : List W) (first right : A) → StrengthRises binding before
       → Takes binding view join (strength sign) before after first right →
       EndsWeaker binding (strength sign) after →
-      in_front strength join sign (map view before) first ≡ map view after ++ (sign, right) ∷ []
+      sign_in_front strength join sign (map view before) first ≡ map view after ++ (sign, right) ∷ []
   put_in_front sign before after first right rises takes ends =
       let weaker = all_weaker binding (strength sign) after (rises_front binding after takes.taken
       (subst (StrengthRises binding) takes.falls rises)) ends in
-      ap (λ (l : List (S × A)). in_front strength join sign l first) (ap (map view) takes.falls ∙ map-append view after takes.taken)
+      ap (λ (l : List (S × A)). sign_in_front strength join sign l first) (ap (map view) takes.falls ∙ map-append view after takes.taken)
       ∙ stay_before sign after (map view takes.taken) first weaker
       ∙ ap (λ (l : List (S × A)). map view after ++ l)
       (all_closed strength join sign (map view takes.taken) first (among_view
@@ -123,7 +123,7 @@ module _ {W S A : Type 0} (strength : S → ℕ) (join : S → A → A → A) (v
       ap (more strength join a s) (onto_more operands signs operand sign so_far (omega (arith, same)))
 
   pub onto_last : (operands : List A) (signs : List S) (last : A) → length operands ≡ length signs →
-      leftmost strength join (operands ++ last ∷ []) signs ≡ Some (grouped_onto strength join operands signs
+      leftmost_grouping strength join (operands ++ last ∷ []) signs ≡ Some (grouped_onto strength join operands signs
       (record { first = last; waiting = [] }))
   onto_last [] [] last same = refl
   onto_last [] (s ∷ signs) last same = absurd (omega (arith, same))

@@ -1,10 +1,10 @@
 -- What is made of trees part by part goes with their grouping.
 use Rattle.std.proofs.Common.{◌≡◌, ◌∙◌, ℕ, nat_lt, true, false, List, [], ◌∷◌, map, Some, None, refl, ap}
 use Rattle.std.specs.Prelude.{Option, cond, option_map}
-use Rattle.syntax_trees.specs.Grouping.{Leftmost, closed, in_front, leftmost, grouped}
-use Rattle.syntax_trees.specs.Strength.{strength_of, joined}
+use Rattle.syntax_trees.specs.Grouping.{Leftmost, closed, sign_in_front, leftmost_grouping, grouped}
+use Rattle.syntax_trees.specs.Strength.{strength_of, joined_by_sign}
 use Rattle.syntax_trees.specs.DepthLaws.{FirstsAreGrouped}
-use Rattle.syntax_trees.specs.Firsts.{between}
+use Rattle.syntax_trees.specs.Firsts.{firsts_between}
 use Rattle.syntax_trees.specs.TreeFirsts.{behaviour_firsts}
 
 module _ {A B S : Type 0} (made : A → B) (strength : S → ℕ) (join : S → A → A → A) (make : B → B → B)
@@ -21,13 +21,13 @@ module _ {A B S : Type 0} (made : A → B) (strength : S → ℕ) (join : S → 
       makes root.0 (closed join inner first) root.1 ∙ ap (λ it. make it (made root.1)) (closed_made inner first)
 
   in_front_made : (sign : S) (waiting : List (S × A)) (first : A) →
-      map weigh (in_front strength join sign waiting first)
-      ≡ in_front (λ it. it) joins (strength sign) (map weigh waiting) (made first)
+      map weigh (sign_in_front strength join sign waiting first)
+      ≡ sign_in_front (λ it. it) joins (strength sign) (map weigh waiting) (made first)
   in_front_made sign [] first = refl
   in_front_made sign (root ∷ inner) first =
-      elim (nat_lt (strength root.0) (strength sign)) as (λ b. map weigh (cond b (root ∷ in_front strength join sign inner first)
+      elim (nat_lt (strength root.0) (strength sign)) as (λ b. map weigh (cond b (root ∷ sign_in_front strength join sign inner first)
       ((sign, closed join (root ∷ inner) first) ∷ []))
-      ≡ cond b (weigh root ∷ in_front (λ it. it) joins (strength sign) (map weigh inner) (made first))
+      ≡ cond b (weigh root ∷ sign_in_front (λ it. it) joins (strength sign) (map weigh inner) (made first))
       ((strength sign, closed joins (weigh root ∷ map weigh inner) (made first)) ∷ [])) [
         | true ↦ ap (λ it. weigh root ∷ it) (in_front_made sign inner first)
         | false ↦ ap (λ it. (strength sign, it) ∷ []) (closed_made (root ∷ inner) first)
@@ -37,10 +37,10 @@ module _ {A B S : Type 0} (made : A → B) (strength : S → ℕ) (join : S → 
   made_leftmost all = record { first = made all.first; waiting = map weigh all.waiting }
 
   abbrev put : A → S → Leftmost A S → Leftmost A S
-  put first sign rest = record { first = first; waiting = in_front strength join sign rest.waiting rest.first }
+  put first sign rest = record { first = first; waiting = sign_in_front strength join sign rest.waiting rest.first }
 
   abbrev put_made : B → ℕ → Leftmost B ℕ → Leftmost B ℕ
-  put_made first sign rest = record { first = first; waiting = in_front (λ it. it) joins sign rest.waiting rest.first }
+  put_made first sign rest = record { first = first; waiting = sign_in_front (λ it. it) joins sign rest.waiting rest.first }
 
   put_is : (first : A) (sign : S) (rest : Option (Leftmost A S)) (other : Option (Leftmost B ℕ)) →
       option_map made_leftmost rest ≡ other →
@@ -54,15 +54,17 @@ module _ {A B S : Type 0} (made : A → B) (strength : S → ℕ) (join : S → 
       ap Some same ∙ ap (option_map (put_made (made first) (strength sign))) e
 
   leftmost_made : (operands : List A) (signs : List S) →
-      option_map made_leftmost (leftmost strength join operands signs) ≡ leftmost (λ it. it) joins (map made operands) (map strength signs)
+      option_map made_leftmost (leftmost_grouping strength join operands signs)
+      ≡ leftmost_grouping (λ it. it) joins (map made operands) (map strength signs)
   leftmost_made [] signs = refl
   leftmost_made (last ∷ []) [] = refl
   leftmost_made (first ∷ second ∷ operands) [] = refl
   leftmost_made (first ∷ []) (sign ∷ signs) =
-      put_is first sign (leftmost strength join [] signs) (leftmost (λ it. it) joins [] (map strength signs)) (leftmost_made [] signs)
+      put_is first sign (leftmost_grouping strength join [] signs) (leftmost_grouping (λ it. it) joins [] (map strength signs))
+      (leftmost_made [] signs)
   leftmost_made (first ∷ second ∷ operands) (sign ∷ signs) =
-      put_is first sign (leftmost strength join (second ∷ operands) signs)
-      (leftmost (λ it. it) joins (map made (second ∷ operands)) (map strength signs)) (leftmost_made (second ∷ operands) signs)
+      put_is first sign (leftmost_grouping strength join (second ∷ operands) signs)
+      (leftmost_grouping (λ it. it) joins (map made (second ∷ operands)) (map strength signs)) (leftmost_made (second ∷ operands) signs)
 
   close_is : (all : Option (Leftmost A S)) (other : Option (Leftmost B ℕ)) → option_map made_leftmost all ≡ other →
       option_map made (option_map (λ it. closed join it.waiting it.first) all) ≡ option_map (λ it. closed joins it.waiting it.first) other
@@ -72,9 +74,10 @@ module _ {A B S : Type 0} (made : A → B) (strength : S → ℕ) (join : S → 
   pub grouped_made : (operands : List A) (signs : List S) →
       option_map made (grouped strength join operands signs) ≡ grouped (λ it. it) joins (map made operands) (map strength signs)
   grouped_made operands signs =
-      close_is (leftmost strength join operands signs) (leftmost (λ it. it) joins (map made operands) (map strength signs))
+      close_is (leftmost_grouping strength join operands signs)
+      (leftmost_grouping (λ it. it) joins (map made operands) (map strength signs))
       (leftmost_made operands signs)
 
 pub firsts_grouped : FirstsAreGrouped
 firsts_grouped limit operands signs =
-    grouped_made (behaviour_firsts limit) strength_of joined between (λ sign left right. refl) operands signs
+    grouped_made (behaviour_firsts limit) strength_of joined_by_sign firsts_between (λ sign left right. refl) operands signs

@@ -2,7 +2,7 @@
 use Rattle.std.proofs.Common.{◌≡◌, ◌∙◌, ℕ, ◌+◌, List, [], ◌∷◌, ◌++◌, refl, ap, sym, subst, arith, map}
 use Rattle.std.specs.Prelude.{Option, Some, None, length, option_map, Result, Ok, Err, IfOk, OnOk}
 use Rattle.std.proofs.lemmas.List.{map-append, length-map, length-append}
-use Rattle.syntax_trees.specs.Grouping.{Leftmost, closed, leftmost, grouped}
+use Rattle.syntax_trees.specs.Grouping.{Leftmost, closed, leftmost_grouping, grouped}
 use Rattle.syntax_trees.specs.Waiting.{EndsWeaker, Takes, StrengthRises, grouped_onto}
 use Rattle.syntax_trees.proofs.Closing.{put_in_front, still_rises, onto_more, onto_last, all_is_closed}
 
@@ -20,7 +20,7 @@ module _ {A S O G : Type 0} (strength : S → ℕ) (join : S → A → A → A) 
   abbrev pub SoFar : List O → List G → List O → List G → O → List (G × O) → Type 0
   SoFar all_operands all_signs operands signs tree waiting =
       (length operands ≡ length signs)
-      × (leftmost strength join (map plain all_operands) (map plain_sign all_signs)
+      × (leftmost_grouping strength join (map plain all_operands) (map plain_sign all_signs)
       ≡ Some (grouped_onto strength join (map plain operands) (map plain_sign signs)
       (record { first = plain tree; waiting = map (λ w. (plain_sign w.0, plain w.1)) waiting })))
       × StrengthRises (λ w. strength (plain_sign w.0)) waiting
@@ -45,7 +45,8 @@ module _ {A S O G : Type 0} (strength : S → ℕ) (join : S → A → A → A) 
       let same : length operands ≡ length signs = omega (arith, lengths, whole, longer) in
       subst (SoFar all_operands signs operands signs tree) (sym none) (
         same,
-        ap (λ (l : List A). leftmost strength join l (map plain_sign signs)) (ap (map plain) are ∙ map-append plain operands (tree ∷ []))
+        ap (λ (l : List A). leftmost_grouping strength join l (map plain_sign signs))
+            (ap (map plain) are ∙ map-append plain operands (tree ∷ []))
             ∙ onto_last {W = G × O} strength join viewed (map plain operands) (map plain_sign signs) (plain tree)
             (same_lengths operands signs same),
         tt,

@@ -3,20 +3,20 @@ use Rattle.std.proofs.Common.{◌≡◌, ◌∙◌, inl, inr, ℕ, ◌<◌, ◌�
 use Rattle.std.specs.Prelude.{All, Option, Some, None, option_map, nat_lt}
 use Rattle.std.proofs.lemmas.Bool.{cases_lt, lt-ltb, le-ltb}
 use Rattle.std.proofs.lemmas.List.Elements.{All-nil, All-cons, All-head, All-tail, All-append, All-weaker}
-use Rattle.syntax_trees.specs.Grouping.{IsGrouped, alone, split, Leftmost, closed, in_front, leftmost, grouped}
+use Rattle.syntax_trees.specs.Grouping.{IsGrouped, alone, split, Leftmost, closed, sign_in_front, leftmost_grouping, grouped}
 
 module _ {A S : Type 0} (strength : S → ℕ) (join : S → A → A → A) where
   -- a sign stays on the way where it is weaker
   pub stays : (sign : S) (root : S × A) (inner : List (S × A)) (first : A) → strength root.0 < strength sign →
-      in_front strength join sign (root ∷ inner) first ≡ root ∷ in_front strength join sign inner first
+      sign_in_front strength join sign (root ∷ inner) first ≡ root ∷ sign_in_front strength join sign inner first
   stays sign root inner first weaker =
-      ap (λ (b : Bool). cond b (root ∷ in_front strength join sign inner first) ((sign, closed join (root ∷ inner) first) ∷ []))
+      ap (λ (b : Bool). cond b (root ∷ sign_in_front strength join sign inner first) ((sign, closed join (root ∷ inner) first) ∷ []))
       (lt-ltb (strength root.0) (strength sign) weaker)
 
   closes : (sign : S) (root : S × A) (inner : List (S × A)) (first : A) → strength sign ≤ strength root.0 →
-      in_front strength join sign (root ∷ inner) first ≡ (sign, closed join (root ∷ inner) first) ∷ []
+      sign_in_front strength join sign (root ∷ inner) first ≡ (sign, closed join (root ∷ inner) first) ∷ []
   closes sign root inner first no_weaker =
-      ap (λ (b : Bool). cond b (root ∷ in_front strength join sign inner first) ((sign, closed join (root ∷ inner) first) ∷ []))
+      ap (λ (b : Bool). cond b (root ∷ sign_in_front strength join sign inner first) ((sign, closed join (root ∷ inner) first) ∷ []))
       (le-ltb (strength root.0) (strength sign) no_weaker)
 
   -- the flat list falls into its first operand and the signs from the root to it with their right sides
@@ -49,7 +49,8 @@ module _ {A S : Type 0} (strength : S → ℕ) (join : S → A → A → A) wher
   alone_in_front another sign no_weaker is = at_sign (All-nil (λ earlier. strength sign < strength earlier)) no_weaker at_operand is
 
   one_in_front : {operands : List A} {signs : List S} {first : A} {waiting : List (S × A)} (another : A) (sign : S) →
-      Falls operands signs first waiting → Falls (another ∷ operands) (sign ∷ signs) another (in_front strength join sign waiting first)
+      Falls operands signs first waiting → Falls (another ∷ operands) (sign ∷ signs) another
+      (sign_in_front strength join sign waiting first)
   one_in_front another sign (at_operand {first = first}) = alone_in_front another sign
       (All-nil (λ later. strength sign ≤ strength later)) alone
   one_in_front another sign (at_sign {operands = operands} {others = others} {before = before} {behind = behind} {sign = root} {right =
@@ -75,17 +76,17 @@ module _ {A S : Type 0} (strength : S → ℕ) (join : S → A → A → A) wher
   falls_more : (first second : A) (operands : List A) (sign : S) (signs : List S) (rest : Option (Leftmost A S))
       → LeftmostFalls (second ∷ operands) signs rest →
       LeftmostFalls (first ∷ second ∷ operands) (sign ∷ signs) (option_map
-      (λ it. record { first = first; waiting = in_front strength join sign it.waiting it.first }) rest)
+      (λ it. record { first = first; waiting = sign_in_front strength join sign it.waiting it.first }) rest)
   falls_more first second operands sign signs None is = tt
   falls_more first second operands sign signs (Some it) is = one_in_front first sign is
 
-  leftmost_falls : (operands : List A) (signs : List S) → LeftmostFalls operands signs (leftmost strength join operands signs)
+  leftmost_falls : (operands : List A) (signs : List S) → LeftmostFalls operands signs (leftmost_grouping strength join operands signs)
   leftmost_falls [] signs = tt
   leftmost_falls (last ∷ []) [] = at_operand
   leftmost_falls (last ∷ []) (sign ∷ signs) = tt
   leftmost_falls (first ∷ second ∷ operands) [] = tt
   leftmost_falls (first ∷ second ∷ operands) (sign ∷ signs) =
-      falls_more first second operands sign signs (leftmost strength join (second ∷ operands) signs)
+      falls_more first second operands sign signs (leftmost_grouping strength join (second ∷ operands) signs)
       (leftmost_falls (second ∷ operands) signs)
 
   grouped_from : (operands : List A) (signs : List S) (tree : A) (rest : Option (Leftmost A S)) → LeftmostFalls operands signs rest →
@@ -97,7 +98,7 @@ module _ {A S : Type 0} (strength : S → ℕ) (join : S → A → A → A) wher
   -- the computed tree is the one that the flat list is grouped to
   pub grouped_is : (operands : List A) (signs : List S) (tree : A) → grouped strength join operands signs ≡ Some tree
       → IsGrouped strength join operands signs tree
-  grouped_is operands signs tree same = grouped_from operands signs tree (leftmost strength join operands signs)
+  grouped_is operands signs tree same = grouped_from operands signs tree (leftmost_grouping strength join operands signs)
       (leftmost_falls operands signs) same
 
   -- each sign on the way is one of the list
@@ -105,14 +106,14 @@ module _ {A S : Type 0} (strength : S → ℕ) (join : S → A → A → A) wher
   Among P waiting = All (λ (e : S × A). P e.0) waiting
 
   in_front_among : (P : S → Type 0) (sign : S) (waiting : List (S × A)) (first : A) → P sign → Among P waiting
-      → Among P (in_front strength join sign waiting first)
+      → Among P (sign_in_front strength join sign waiting first)
   unfolding Among
   in_front_among P sign [] first here among = All-cons (λ (e : S × A). P e.0) (sign, first) [] here among
   in_front_among P sign (root ∷ inner) first here among =
       elim (cases_lt (strength root.0) (strength sign)) [
         | inl weaker ↦
             subst (Among P) (sym (stays sign root inner first weaker))
-            (All-cons (λ (e : S × A). P e.0) root (in_front strength join sign inner first)
+            (All-cons (λ (e : S × A). P e.0) root (sign_in_front strength join sign inner first)
             (All-head (λ (e : S × A). P e.0) root inner among)
             (in_front_among P sign inner first here (All-tail (λ (e : S × A). P e.0) root inner among)))
         | inr least ↦
@@ -122,7 +123,7 @@ module _ {A S : Type 0} (strength : S → ℕ) (join : S → A → A → A) wher
 
   -- the computed list in front of which a further operand is put
   abbrev pub more : A → S → Leftmost A S → Leftmost A S
-  more first sign rest = record { first = first; waiting = in_front strength join sign rest.waiting rest.first }
+  more first sign rest = record { first = first; waiting = sign_in_front strength join sign rest.waiting rest.first }
 
   abbrev LeftmostAmong : (S → Type 0) → Option (Leftmost A S) → Type 0
   LeftmostAmong P None = Unit {0}
@@ -134,19 +135,19 @@ module _ {A S : Type 0} (strength : S → ℕ) (join : S → A → A → A) wher
   among_more P first sign (Some it) here among = in_front_among P sign it.waiting it.first here among
 
   leftmost_among : (P : S → Type 0) (operands : List A) (signs : List S) → All P signs
-      → LeftmostAmong P (leftmost strength join operands signs)
+      → LeftmostAmong P (leftmost_grouping strength join operands signs)
   unfolding Among
   leftmost_among P [] signs all = tt
   leftmost_among P (last ∷ []) [] all = All-nil (λ (e : S × A). P e.0)
   leftmost_among P (last ∷ []) (sign ∷ signs) all = tt
   leftmost_among P (first ∷ second ∷ operands) [] all = tt
   leftmost_among P (first ∷ second ∷ operands) (sign ∷ signs) all =
-      among_more P first sign (leftmost strength join (second ∷ operands) signs) (All-head P sign signs all)
+      among_more P first sign (leftmost_grouping strength join (second ∷ operands) signs) (All-head P sign signs all)
       (leftmost_among P (second ∷ operands) signs (All-tail P sign signs all))
 
   -- where no sign on the way is weaker, all of it is the right side of the new sign
   pub all_closed : (sign : S) (waiting : List (S × A)) (first : A) → Among (λ later. strength sign ≤ strength later) waiting →
-      in_front strength join sign waiting first ≡ (sign, closed join waiting first) ∷ []
+      sign_in_front strength join sign waiting first ≡ (sign, closed join waiting first) ∷ []
   unfolding Among
   all_closed sign [] first no_weaker = refl
   all_closed sign (root ∷ inner) first no_weaker = closes sign root inner first
@@ -154,12 +155,12 @@ module _ {A S : Type 0} (strength : S → ℕ) (join : S → A → A → A) wher
 
   record Computed (operands : List A) (signs : List S) (tree : A) : Type 0 where
     it : Leftmost A S
-    is : leftmost strength join operands signs ≡ Some it
+    is : leftmost_grouping strength join operands signs ≡ Some it
     tree_is : closed join it.waiting it.first ≡ tree
 
   -- the computed list of a right side with a weaker sign before it, and of what stands before that
   record Split (operands others : List A) (before behind : List S) (sign : S) (right : A) (front : Leftmost A S) : Type 0 where
-    is : leftmost strength join (operands ++ others) (before ++ sign ∷ behind) ≡ Some
+    is : leftmost_grouping strength join (operands ++ others) (before ++ sign ∷ behind) ≡ Some
         (record { first = front.first; waiting = (sign, right) ∷ front.waiting })
 
   some_more : (first : A) (sign : S) (rest : Option (Leftmost A S)) (it : Leftmost A S) → rest ≡ Some it
@@ -167,15 +168,16 @@ module _ {A S : Type 0} (strength : S → ℕ) (join : S → A → A → A) wher
   some_more first sign rest it is = ap (option_map (more first sign)) is
 
   pub more_is : (first : A) (operands : List A) (sign : S) (signs : List S) (it : Leftmost A S)
-      → leftmost strength join operands signs ≡ Some it →
-      leftmost strength join (first ∷ operands) (sign ∷ signs) ≡ Some (more first sign it)
+      → leftmost_grouping strength join operands signs ≡ Some it →
+      leftmost_grouping strength join (first ∷ operands) (sign ∷ signs) ≡ Some (more first sign it)
   more_is first [] sign signs it is = absurd (cc)
-  more_is first (second ∷ operands) sign signs it is = some_more first sign (leftmost strength join (second ∷ operands) signs) it is
+  more_is first (second ∷ operands) sign signs it is =
+      some_more first sign (leftmost_grouping strength join (second ∷ operands) signs) it is
 
   -- the first of a list that is computed is there, and so is the rest
   record Rest (first : A) (operands : List A) (sign : S) (signs : List S) (it : Leftmost A S) : Type 0 where
     rest : Leftmost A S
-    is : leftmost strength join operands signs ≡ Some rest
+    is : leftmost_grouping strength join operands signs ≡ Some rest
     whole : more first sign rest ≡ it
 
   rest_from : (first : A) (sign : S) (found : Option (Leftmost A S)) (it : Leftmost A S) → option_map (more first sign) found ≡ Some it →
@@ -184,18 +186,18 @@ module _ {A S : Type 0} (strength : S → ℕ) (join : S → A → A → A) wher
   rest_from first sign (Some rest) it same = (rest, refl, cc)
 
   rest_of : (first : A) (operands : List A) (sign : S) (signs : List S) (it : Leftmost A S)
-      → leftmost strength join (first ∷ operands) (sign ∷ signs) ≡ Some it → Rest first operands sign signs it
+      → leftmost_grouping strength join (first ∷ operands) (sign ∷ signs) ≡ Some it → Rest first operands sign signs it
   rest_of first [] sign signs it same = absurd (cc)
   rest_of first (second ∷ operands) sign signs it same =
-      let found = rest_from first sign (leftmost strength join (second ∷ operands) signs) it same in
+      let found = rest_from first sign (leftmost_grouping strength join (second ∷ operands) signs) it same in
       record { rest = found.0; is = found.1; whole = found.2 }
 
   split_at_sign : (operands others : List A) (before behind : List S) (sign : S) (right : A) (front it : Leftmost A S)
-      → leftmost strength join others behind ≡ Some it →
+      → leftmost_grouping strength join others behind ≡ Some it →
       closed join it.waiting it.first ≡ right → All (λ later. strength sign ≤ strength later) behind
       → All (λ earlier. strength sign < strength earlier) before →
-      leftmost strength join operands before ≡ Some front →
-      leftmost strength join (operands ++ others) (before ++ sign ∷ behind) ≡ Some
+      leftmost_grouping strength join operands before ≡ Some front →
+      leftmost_grouping strength join (operands ++ others) (before ++ sign ∷ behind) ≡ Some
       (record { first = front.first; waiting = (sign, right) ∷ front.waiting })
   unfolding Among
   split_at_sign [] others before behind sign right front it is tree_is no_weaker stronger front_is = absurd (cc)

@@ -7,7 +7,7 @@ use Rattle.std.proofs.lemmas.List.{length-map, length-reverse, map-append, rever
 use Rattle.std.proofs.Math.Seq.{drop-append_seam}
 use Rattle.lotos_base.specs.declared.places.Place.{Place}
 use Rattle.lotos_base.specs.WrittenView.{text_place_of}
-use Rattle.syntax_trees.specs.Firsts.{Firsts, followed_by}
+use Rattle.syntax_trees.specs.Firsts.{Firsts, firsts_followed_by}
 
 pub map-reversed : {A B : Type 0} (f : A → B) (xs : List A) → reverse (map f xs) ≡ map f (reverse xs)
 map-reversed f [] = refl
@@ -47,7 +47,7 @@ seen_over over under places e =
 pub seen_followed : (over under places : List Place) (gone rest : Option Place) → gone ≡ None →
     reverse places ≡ reverse over ++ drop (length over) (reverse under) →
     (let all : Firsts = record { places = reverse (map text_place_of places); rest = option_map text_place_of rest } in all)
-    ≡ followed_by (reverse (map text_place_of over)) (option_map text_place_of gone)
+    ≡ firsts_followed_by (reverse (map text_place_of over)) (option_map text_place_of gone)
     (record { places = reverse (map text_place_of under); rest = option_map text_place_of rest })
 seen_followed over under places (Some place) rest none e = let both : Some place ≡ None = none in cc
 seen_followed over under places None rest none e =

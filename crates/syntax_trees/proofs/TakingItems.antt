@@ -14,7 +14,7 @@ use Rattle.syntax_trees.specs.declared.definitions.InnerText.TheOpen.{InnerText-
 use Rattle.syntax_trees.specs.declared.items.ItemText.{ItemText}
 use Rattle.syntax_trees.specs.declared.levels.Level.{Level}
 use Rattle.syntax_trees.specs.declared.levels.Outer.{Outer}
-use Rattle.syntax_trees.specs.TreeViews.{heading_of, behaviour_of, inner_list_of, inner_of, inner_level, item_of, process_level, process_of}
+use Rattle.syntax_trees.specs.TreeViews.{heading_of, written_behaviour_of, inner_list_of, inner_of, inner_level, item_of, process_level, written_process_of}
 use Rattle.syntax_trees.specs.WrittenItem.{WrittenItem}
 use Rattle.syntax_trees.specs.WrittenBehaviour.{WrittenBehaviour}
 use Rattle.syntax_trees.specs.WrittenDefinition.{WrittenHeading, WrittenInner, WrittenInners, inner_item, process, no_inner, inner_then, list_of_inners, inners_of}
@@ -31,7 +31,7 @@ pub record OuterList : Type 0 where
 abbrev pub outer_of : Outer → OuterList
 outer_of outer = record {
   heading = heading_of outer.place outer.name outer.gates.items outer.params.items outer.func;
-  body = behaviour_of outer.body;
+  body = written_behaviour_of outer.body;
   kept = inner_list_of (take outer.level.kept outer.level.list.items);
   ahead = inner_list_of (drop outer.level.next outer.level.list.items);
 }
@@ -152,8 +152,8 @@ pub opened : (before : List WrittenItem) (inner : List WrittenInner) (outers out
     take next.kept next.list.items ≡ take level.kept level.list.items →
     drop level.next level.list.items ≡ Process definition ∷ drop next.next next.list.items →
     last.level ≡ next →
-    process_of definition
-    ≡ process (heading_of last.place last.name last.gates.items last.params.items last.func) (behaviour_of last.body)
+    written_process_of definition
+    ≡ process (heading_of last.place last.name last.gates.items last.params.items last.func) (written_behaviour_of last.body)
     (inners_of (inner_list_of list)) →
     outers' ≡ outers ++ last ∷ [] → take own.kept own.list.items ≡ [] → drop own.next own.list.items ≡ list →
     IsTaking before inner (map outer_of outers') (kept_in own) (ahead_in own) items
@@ -175,7 +175,8 @@ pub closed_level : (before : List WrittenItem) (inner : List WrittenInner) (oute
     take next.kept next.list.items ≡ take level.kept level.list.items → drop level.next level.list.items ≡ [] →
     outers ≡ outers' ++ last ∷ [] → left ≡ take next.kept next.list.items →
     kept_in above
-    ≡ kept_in last.level ++ process (heading_of last.place last.name last.gates.items last.params.items last.func) (behaviour_of last.body)
+    ≡ kept_in last.level ++ process (heading_of last.place last.name last.gates.items last.params.items last.func)
+    (written_behaviour_of last.body)
     (inners_of (inner_list_of left)) ∷ [] →
     drop above.next above.list.items ≡ drop last.level.next last.level.list.items →
     IsTaking before inner (map outer_of outers') (kept_in above) (ahead_in above) items
@@ -189,16 +190,16 @@ closed_level before inner outers outers' level next above last left items so kep
 pub counts_process : (level next : Level) (outers outers' : List Outer) (last : Outer) (definition : ProcessText) (list : List InnerText) →
     drop level.next level.list.items ≡ Process definition ∷ drop next.next next.list.items →
     last.level ≡ next →
-    process_of definition
-    ≡ process (heading_of last.place last.name last.gates.items last.params.items last.func) (behaviour_of last.body)
+    written_process_of definition
+    ≡ process (heading_of last.place last.name last.gates.items last.params.items last.func) (written_behaviour_of last.body)
     (inners_of (inner_list_of list)) →
     outers' ≡ outers ++ last ∷ [] →
     count_in (ahead_in level) + count_ahead (map outer_of outers)
     ≡ 1 + (count_in (inner_list_of list) + count_ahead (map outer_of outers'))
 counts_process level next outers outers' last definition list ahead at parts pushed =
-    let first : count_in (ahead_in level) ≡ declarations_in (process_of definition) + count_in (ahead_in next) =
+    let first : count_in (ahead_in level) ≡ declarations_in (written_process_of definition) + count_in (ahead_in next) =
     ap (λ it. count_in (inner_list_of it)) ahead ∙ ap (λ it. declarations_in it + count_in (ahead_in next)) (seen_process definition) in
-    let own : declarations_in (process_of definition) ≡ 1 + count_in (inner_list_of list) = ap declarations_in parts in
+    let own : declarations_in (written_process_of definition) ≡ 1 + count_in (inner_list_of list) = ap declarations_in parts in
     let here : count_in (ahead_in last.level) ≡ count_in (ahead_in next) = ap (λ it. count_in (ahead_in it)) at in
     let all : count_ahead (map outer_of outers') ≡ count_in (ahead_in last.level) + count_ahead (map outer_of outers) =
     ap (λ it. count_ahead (map outer_of it)) pushed ∙ ap count_ahead (map-append outer_of outers (last ∷ []))
@@ -266,7 +267,7 @@ pub seen_again : (place : Place) (name : Name) (gates : Vec (Place × Name) Glob
       body = body;
       inner = inner;
     })))
-    ≡ process (heading_of place name gates.items params.items func) (behaviour_of body) (inners_of (inner_list_of inner.items))
+    ≡ process (heading_of place name gates.items params.items func) (written_behaviour_of body) (inners_of (inner_list_of inner.items))
 seen_again place name gates params func body inner =
     seen_process _
     ∙ fold-roll-ProcessText WrittenInner WrittenInner inner_level process_level (record {

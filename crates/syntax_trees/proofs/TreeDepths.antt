@@ -9,7 +9,7 @@ use Rattle.lotos_base.specs.WrittenTerm.{WrittenTerm, WrittenTerms, written, no_
 use Rattle.syntax_trees.specs.WrittenVariable.{WrittenVariable}
 use Rattle.syntax_trees.specs.WrittenBehaviour.{WrittenGateChoice, WrittenBehaviour, stop, exit, call, action, inner_action, guard, hide, let_be, choose_value, choose_gate, par_gate, binary}
 use Rattle.syntax_trees.specs.Depth.{TreeNode, node_at, before_parts, term_nodes, terms_nodes, nodes_of_term, nodes_of_terms, nodes_of_premiss, nodes_of_maybe_premiss, nodes_of_offer, nodes_of_exit_value, variable_nodes, gate_nodes, behaviour_nodes, first_deeper}
-use Rattle.syntax_trees.specs.Firsts.{Firsts, first_from, no_nodes, everywhere, followed, below, between}
+use Rattle.syntax_trees.specs.Firsts.{Firsts, first_from, no_nodes, everywhere, firsts_followed, firsts_below, firsts_between}
 use Rattle.syntax_trees.specs.TreeFirsts.{node_firsts, term_firsts, terms_firsts, names_firsts, behaviour_firsts}
 use Rattle.syntax_trees.specs.DepthLaws.{FirstsTellTheFirstTooDeep}
 use Rattle.syntax_trees.proofs.FirstsLemmas.{HasNode, followed-from, between-from, between-first, between-node, below-node}
@@ -49,13 +49,13 @@ past_node limit depth k place behind h = ap (λ b. cond b (Some place) (first_de
 -- a node in front of its parts
 in_front : (limit depth k : ℕ) (place : Place) (behind : List TreeNode) (parts : Firsts) → IsFrom limit depth k →
     ((j : ℕ) → IsFrom limit (depth + 1) j → first_deeper limit behind ≡ first_from parts j) →
-    first_deeper limit (node_at place depth ∷ behind) ≡ first_from (below place parts) k
+    first_deeper limit (node_at place depth ∷ behind) ≡ first_from (firsts_below place parts) k
 in_front limit depth zero place behind parts h each = at_node limit depth place behind h
 in_front limit depth (suc k) place behind parts h each = past_node limit depth k place behind h ∙ each k (deeper limit depth k h)
 
 -- parts one behind the other
 one_behind : (limit k : ℕ) (some others : List TreeNode) (before behind : Firsts) → first_deeper limit some ≡ first_from before k →
-    first_deeper limit others ≡ first_from behind k → first_deeper limit (some ++ others) ≡ first_from (followed before behind) k
+    first_deeper limit others ≡ first_from behind k → first_deeper limit (some ++ others) ≡ first_from (firsts_followed before behind) k
 one_behind limit k some others before behind e f =
     first_deeper-append limit some others ∙ ap (λ it. option_or it (first_deeper limit others)) e
     ∙ ap (λ it. option_or (first_from before k) it) f ∙ sym (followed-from before behind k)
@@ -64,7 +64,7 @@ one_behind limit k some others before behind e f =
 in_between : (limit depth k : ℕ) (place : Place) (some others : List TreeNode) (before behind : Firsts) → IsFrom limit depth k →
     HasNode before → ((j : ℕ) → IsFrom limit (depth + 1) j → first_deeper limit some ≡ first_from before j) →
     ((j : ℕ) → IsFrom limit (depth + 1) j → first_deeper limit others ≡ first_from behind j) →
-    first_deeper limit (some ++ node_at place depth ∷ others) ≡ first_from (between before behind) k
+    first_deeper limit (some ++ node_at place depth ∷ others) ≡ first_from (firsts_between before behind) k
 in_between limit depth zero place some others before behind h has first second =
     let there : first_from before 0 ≡ Some has.place = ap (λ it. option_or (slice_get it 0) before.rest) has.are in
     let here : first_deeper limit some ≡ Some has.place = first 0 (let below : limit < depth = h in omega arith) ∙ there in
@@ -78,7 +78,7 @@ in_between limit depth (suc k) place some others before behind h has first secon
     ∙ sym (between-from before behind has k)
 
 node_has : (form : Form) (place : Place) (first others : Firsts) → HasNode first → HasNode (node_firsts form place first others)
-node_has prefix_form place first others has = below-node place (followed first others)
+node_has prefix_form place first others has = below-node place (firsts_followed first others)
 node_has infix_form place first others has = between-node first others has
 
 term_has : (term : WrittenTerm) → HasNode (term_firsts term)
@@ -92,7 +92,7 @@ node_is : (limit depth k : ℕ) (form : Form) (place : Place) (some others : Lis
     ((j : ℕ) → IsFrom limit (depth + 1) j → first_deeper limit others ≡ first_from behind j) →
     first_deeper limit (before_parts (node_at place depth) form some others) ≡ first_from (node_firsts form place before behind) k
 node_is limit depth k prefix_form place some others before behind h has first second =
-    in_front limit depth k place (some ++ others) (followed before behind) h
+    in_front limit depth k place (some ++ others) (firsts_followed before behind) h
     (λ j i. one_behind limit j some others before behind (first j i) (second j i))
 node_is limit depth k infix_form place some others before behind h has first second =
     in_between limit depth k place some others before behind h has first second
@@ -119,7 +119,7 @@ root (suc limit) = omega arith
 -- what is too deep in terms is so wherever the behaviour stands
 terms_behind : (limit k : ℕ) (some : List TreeNode) (others : List TreeNode) (behind : Firsts) →
     first_deeper limit others ≡ first_from behind k →
-    first_deeper limit (some ++ others) ≡ first_from (followed (everywhere (first_deeper limit some)) behind) k
+    first_deeper limit (some ++ others) ≡ first_from (firsts_followed (everywhere (first_deeper limit some)) behind) k
 terms_behind limit k some others behind e =
     one_behind limit k some others (everywhere (first_deeper limit some)) behind refl e
 
@@ -187,7 +187,7 @@ behaviour_is limit (action place gate offers test next) depth k h =
     let terms = flat_map nodes_of_offer offers ++ nodes_of_maybe_premiss test in
     in_front limit depth k place
     (flat_map nodes_of_offer offers ++ (nodes_of_maybe_premiss test ++ behaviour_nodes (depth + 1) next))
-    (followed (everywhere (first_deeper limit terms)) (behaviour_firsts limit next)) h
+    (firsts_followed (everywhere (first_deeper limit terms)) (behaviour_firsts limit next)) h
     (λ j i.
     ap (first_deeper limit) (sym (append_assoc (flat_map nodes_of_offer offers) (nodes_of_maybe_premiss test)
     (behaviour_nodes (depth + 1) next)))
@@ -197,7 +197,7 @@ behaviour_is limit (inner_action place next) depth k h =
     (λ j i. behaviour_is limit next (depth + 1) j i)
 behaviour_is limit (guard place test next) depth k h =
     in_front limit depth k place (nodes_of_premiss test ++ behaviour_nodes (depth + 1) next)
-    (followed (everywhere (first_deeper limit (nodes_of_premiss test))) (behaviour_firsts limit next)) h
+    (firsts_followed (everywhere (first_deeper limit (nodes_of_premiss test))) (behaviour_firsts limit next)) h
     (λ j i.
     terms_behind limit j (nodes_of_premiss test) (behaviour_nodes (depth + 1) next) (behaviour_firsts limit next)
     (behaviour_is limit next (depth + 1) j i))
@@ -206,7 +206,7 @@ behaviour_is limit (hide place gates inside) depth k h =
     (λ j i. behaviour_is limit inside (depth + 1) j i)
 behaviour_is limit (let_be place values inside) depth k h =
     in_front limit depth k place (flat_map (λ pair. nodes_of_term pair.1) values ++ behaviour_nodes (depth + 1) inside)
-    (followed (everywhere (first_deeper limit (flat_map (λ pair. nodes_of_term pair.1) values))) (behaviour_firsts limit inside)) h
+    (firsts_followed (everywhere (first_deeper limit (flat_map (λ pair. nodes_of_term pair.1) values))) (behaviour_firsts limit inside)) h
     (λ j i.
     terms_behind limit j (flat_map (λ pair. nodes_of_term pair.1) values) (behaviour_nodes (depth + 1) inside)
     (behaviour_firsts limit inside) (behaviour_is limit inside (depth + 1) j i))

@@ -4,8 +4,8 @@ use Rattle.lotos_base.specs.WrittenTerm.{WrittenTerm}
 use Rattle.syntax_trees.specs.WrittenBehaviour.{WrittenBehaviour}
 use Rattle.syntax_trees.specs.Depth.{first_deeper, nodes_of_term, behaviour_nodes}
 use Rattle.syntax_trees.specs.Grouping.{grouped}
-use Rattle.syntax_trees.specs.Strength.{PlacedSign, strength_of, joined}
-use Rattle.syntax_trees.specs.Firsts.{first_from, between}
+use Rattle.syntax_trees.specs.Strength.{PlacedSign, strength_of, joined_by_sign}
+use Rattle.syntax_trees.specs.Firsts.{first_from, firsts_between}
 use Rattle.syntax_trees.specs.TreeFirsts.{term_firsts, behaviour_firsts}
 
 -- the first node that is deeper than the limit, of a term or a behaviour whose root is at 1
@@ -18,5 +18,5 @@ pub record FirstsTellTheFirstTooDeep : Type 0 where
 abbrev pub FirstsAreGrouped : Type 0
 FirstsAreGrouped =
     (limit : ℕ) (operands : List WrittenBehaviour) (signs : List PlacedSign) →
-    option_map (behaviour_firsts limit) (grouped strength_of joined operands signs)
-    ≡ grouped (λ strength. strength) (λ strength. between) (map (behaviour_firsts limit) operands) (map strength_of signs)
+    option_map (behaviour_firsts limit) (grouped strength_of joined_by_sign operands signs)
+    ≡ grouped (λ strength. strength) (λ strength. firsts_between) (map (behaviour_firsts limit) operands) (map strength_of signs)

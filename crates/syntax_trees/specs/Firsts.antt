@@ -23,22 +23,22 @@ abbrev pub everywhere : Option Place → Firsts
 everywhere place = record { places = []; rest = place }
 
 -- of what stands before, and then of what stands behind it
-abbrev pub followed_by : List Place → Option Place → Firsts → Firsts
-followed_by places (Some place) behind = record { places = places; rest = Some place }
-followed_by places None behind = record { places = places ++ drop (length places) behind.places; rest = behind.rest }
+abbrev pub firsts_followed_by : List Place → Option Place → Firsts → Firsts
+firsts_followed_by places (Some place) behind = record { places = places; rest = Some place }
+firsts_followed_by places None behind = record { places = places ++ drop (length places) behind.places; rest = behind.rest }
 
-abbrev pub followed : Firsts → Firsts → Firsts
-followed before behind = followed_by before.places before.rest behind
+abbrev pub firsts_followed : Firsts → Firsts → Firsts
+firsts_followed before behind = firsts_followed_by before.places before.rest behind
 
 -- of a node and of the parts behind it, which stand one below it
-abbrev pub below : Place → Firsts → Firsts
-below place parts = record { places = place ∷ parts.places; rest = parts.rest }
+abbrev pub firsts_below : Place → Firsts → Firsts
+firsts_below place parts = record { places = place ∷ parts.places; rest = parts.rest }
 
 -- the first of these places is the first of all
 abbrev pub first_then : List Place → Firsts → Firsts
 first_then [] parts = parts
-first_then (place ∷ places) parts = below place parts
+first_then (place ∷ places) parts = firsts_below place parts
 
 -- of a node between its parts. The first of all nodes is that of the part before it, so the node itself is never the first.
-abbrev pub between : Firsts → Firsts → Firsts
-between before behind = first_then before.places (followed before behind)
+abbrev pub firsts_between : Firsts → Firsts → Firsts
+firsts_between before behind = first_then before.places (firsts_followed before behind)

@@ -25,21 +25,22 @@ closed join (root ∷ inner) first = join root.0 (closed join inner first) root.
 
 -- the signs from the root to a further operand, whose sign is put in front of the first one: a sign stays on the way
 -- where it is weaker; the tree from the first on that is not is the right side of the new sign
-abbrev pub in_front : {A S : Type 0} → (S → ℕ) → (S → A → A → A) → S → List (S × A) → A → List (S × A)
-in_front strength join sign [] first = (sign, first) ∷ []
-in_front strength join sign (root ∷ inner) first =
-    cond (nat_lt (strength root.0) (strength sign)) (root ∷ in_front strength join sign inner first)
+abbrev pub sign_in_front : {A S : Type 0} → (S → ℕ) → (S → A → A → A) → S → List (S × A) → A → List (S × A)
+sign_in_front strength join sign [] first = (sign, first) ∷ []
+sign_in_front strength join sign (root ∷ inner) first =
+    cond (nat_lt (strength root.0) (strength sign)) (root ∷ sign_in_front strength join sign inner first)
     ((sign, closed join (root ∷ inner) first) ∷ [])
 
 -- a flat list, where there is one operand more than signs
-abbrev pub leftmost : {A S : Type 0} → (S → ℕ) → (S → A → A → A) → List A → List S → Option (Leftmost A S)
-leftmost strength join [] signs = None
-leftmost strength join (last ∷ []) [] = Some (record { first = last; waiting = [] })
-leftmost strength join (first ∷ second ∷ operands) [] = None
-leftmost strength join (first ∷ operands) (sign ∷ signs) =
-    option_map (λ rest. record { first = first; waiting = in_front strength join sign rest.waiting rest.first })
-    (leftmost strength join operands signs)
+abbrev pub leftmost_grouping : {A S : Type 0} → (S → ℕ) → (S → A → A → A) → List A → List S → Option (Leftmost A S)
+leftmost_grouping strength join [] signs = None
+leftmost_grouping strength join (last ∷ []) [] = Some (record { first = last; waiting = [] })
+leftmost_grouping strength join (first ∷ second ∷ operands) [] = None
+leftmost_grouping strength join (first ∷ operands) (sign ∷ signs) =
+    option_map (λ rest. record { first = first; waiting = sign_in_front strength join sign rest.waiting rest.first })
+    (leftmost_grouping strength join operands signs)
 
 -- the tree of a flat list
 abbrev pub grouped : {A S : Type 0} → (S → ℕ) → (S → A → A → A) → List A → List S → Option A
-grouped strength join operands signs = option_map (λ all. closed join all.waiting all.first) (leftmost strength join operands signs)
+grouped strength join operands signs =
+    option_map (λ all. closed join all.waiting all.first) (leftmost_grouping strength join operands signs)

@@ -21,5 +21,5 @@ abbrev pub strength_of : PlacedSign → ℕ
 strength_of placed = strength placed.sign
 
 -- the behaviour of a sign and its two sides
-abbrev pub joined : PlacedSign → WrittenBehaviour → WrittenBehaviour → WrittenBehaviour
-joined placed left right = binary placed.place placed.sign left right
+abbrev pub joined_by_sign : PlacedSign → WrittenBehaviour → WrittenBehaviour → WrittenBehaviour
+joined_by_sign placed left right = binary placed.place placed.sign left right

@@ -42,16 +42,16 @@ use Rattle.syntax_trees.specs.WrittenDefinition.{WrittenHeading, WrittenInner, i
 abbrev pub placed_names_of : List (Place × Name) → List PlacedName
 placed_names_of names = map placed_name_of names
 
-abbrev pub variable_of : VarText → WrittenVariable
-variable_of variable = record {
+abbrev pub written_variable_of : VarText → WrittenVariable
+written_variable_of variable = record {
   place = text_place_of variable.place;
   name = spelling variable.name;
   sort = spelling variable.sort;
   sort_place = text_place_of variable.sort_place;
 }
 
-abbrev pub variables_of : List VarText → List WrittenVariable
-variables_of variables = map variable_of variables
+abbrev pub written_variables_of : List VarText → List WrittenVariable
+written_variables_of variables = map written_variable_of variables
 
 abbrev pub premiss_of : TestText → WrittenPremiss
 premiss_of test = record {
@@ -60,8 +60,8 @@ premiss_of test = record {
   right = option_map written_term_of test.right;
 }
 
-abbrev pub equation_of : EqText → WrittenEquation
-equation_of equation = record {
+abbrev pub written_equation_of : EqText → WrittenEquation
+written_equation_of equation = record {
   place = text_place_of equation.place;
   premisses = map premiss_of equation.premisses.items;
   arrow = option_map text_place_of equation.arrow;
@@ -73,18 +73,18 @@ abbrev pub group_of : GroupText → WrittenGroup
 group_of group = record {
   place = text_place_of group.place;
   sort = spelling group.sort;
-  variables = variables_of group.variables.items;
-  equations = map equation_of group.equations.items;
+  variables = written_variables_of group.variables.items;
+  equations = map written_equation_of group.equations.items;
 }
 
 abbrev pub equations_of : EqnsText → WrittenEquations
 equations_of equations = record {
-  variables = variables_of equations.variables.items;
+  variables = written_variables_of equations.variables.items;
   groups = map group_of equations.groups.items;
 }
 
-abbrev pub operation_of : OpText → WrittenOperation
-operation_of operation = record {
+abbrev pub written_operation_of : OpText → WrittenOperation
+written_operation_of operation = record {
   place = text_place_of operation.place;
   name = spelling operation.name;
   form = form_of operation.form;
@@ -109,10 +109,10 @@ item_of text = elim text.body [
       item.type_declared (text_place_of text.place) (spelling name)
       (item.extends (placed_names_of imports.items) (record {
         formal_sorts = placed_names_of formal_sorts.items;
-        formal_operations = map operation_of formal_ops.items;
+        formal_operations = map written_operation_of formal_ops.items;
         formal_equations = equations_of formal_equations;
         sorts = placed_names_of sorts.items;
-        operations = map operation_of ops.items;
+        operations = map written_operation_of ops.items;
         equations = equations_of equations;
       }))
   | Renames name base sort_pairs op_pairs ↦
@@ -129,7 +129,7 @@ sign_of sign.Interleave = behaviour.interleaving
 sign_of sign.Full = behaviour.full_synchronisation
 sign_of (sign.Gates gates) = behaviour.synchronising (placed_names_of gates.items)
 sign_of sign.Disable = behaviour.disabling
-sign_of (sign.Enable variables) = behaviour.enabling (variables_of variables.items)
+sign_of (sign.Enable variables) = behaviour.enabling (written_variables_of variables.items)
 
 abbrev pub gate_choice_of : GateText → WrittenGateChoice
 gate_choice_of gate = record {
@@ -141,48 +141,48 @@ gate_choice_of gate = record {
 abbrev pub gate_choices_of : List GateText → List WrittenGateChoice
 gate_choices_of gates = map gate_choice_of gates
 
-abbrev pub exit_value_of : ExitText → WrittenExitValue
-exit_value_of (exit_text.Give term) = behaviour.exit_term (written_term_of term)
-exit_value_of (exit_text.Any sort) = behaviour.exit_any (placed_name_of sort)
+abbrev pub written_exit_value_of : ExitText → WrittenExitValue
+written_exit_value_of (exit_text.Give term) = behaviour.exit_term (written_term_of term)
+written_exit_value_of (exit_text.Any sort) = behaviour.exit_any (placed_name_of sort)
 
-abbrev pub offer_of : OfferText → WrittenOffer
-offer_of (offer_text.Give term) = behaviour.offer_value (written_term_of term)
-offer_of (offer_text.Ask variable) = behaviour.offer_variable (variable_of variable)
+abbrev pub written_offer_of : OfferText → WrittenOffer
+written_offer_of (offer_text.Give term) = behaviour.offer_value (written_term_of term)
+written_offer_of (offer_text.Ask variable) = behaviour.offer_variable (written_variable_of variable)
 
 abbrev pub lets_of : List (VarText × Written) → List (WrittenVariable × WrittenTerm)
-lets_of pairs = map (λ pair. (variable_of pair.0, written_term_of pair.1)) pairs
+lets_of pairs = map (λ pair. (written_variable_of pair.0, written_term_of pair.1)) pairs
 
 -- a form of a behaviour that stands at the place
-abbrev pub behaviour_at : Place → BehForm → WrittenBehaviour
-behaviour_at place Stop = behaviour.stop (text_place_of place)
-behaviour_at place (Exit values) = behaviour.exit (text_place_of place) (map exit_value_of values.items)
-behaviour_at place (Call name gates values) =
+abbrev pub written_behaviour_at : Place → BehForm → WrittenBehaviour
+written_behaviour_at place Stop = behaviour.stop (text_place_of place)
+written_behaviour_at place (Exit values) = behaviour.exit (text_place_of place) (map written_exit_value_of values.items)
+written_behaviour_at place (Call name gates values) =
     behaviour.call (text_place_of place) (spelling name) (placed_names_of gates.items) (written_terms_of values.items)
-behaviour_at place (Action' gate offers test _ next_place next) =
-    behaviour.action (text_place_of place) (spelling gate) (map offer_of offers.items) (option_map premiss_of test)
-    (behaviour_at next_place next)
-behaviour_at place (Inner' _ next_place next) = behaviour.inner_action (text_place_of place) (behaviour_at next_place next)
-behaviour_at place (Guard' test _ next_place next) =
-    behaviour.guard (text_place_of place) (premiss_of test) (behaviour_at next_place next)
-behaviour_at place (Hide' gates _ next_place next) =
-    behaviour.hide (text_place_of place) (placed_names_of gates.items) (behaviour_at next_place next)
-behaviour_at place (Let' values _ next_place next) =
-    behaviour.let_be (text_place_of place) (lets_of values.items) (behaviour_at next_place next)
-behaviour_at place (ChooseValue' variables _ next_place next) =
-    behaviour.choose_value (text_place_of place) (variables_of variables.items) (behaviour_at next_place next)
-behaviour_at place (ChooseGate' gates _ next_place next) =
-    behaviour.choose_gate (text_place_of place) (gate_choices_of gates.items) (behaviour_at next_place next)
-behaviour_at place (ParGate' gates sign _ next_place next) =
-    behaviour.par_gate (text_place_of place) (gate_choices_of gates.items) (sign_of sign) (behaviour_at next_place next)
-behaviour_at place (Binary' sign _ left_place left _ right_place right) =
-    behaviour.binary (text_place_of place) (sign_of sign) (behaviour_at left_place left) (behaviour_at right_place right)
+written_behaviour_at place (Action' gate offers test _ next_place next) =
+    behaviour.action (text_place_of place) (spelling gate) (map written_offer_of offers.items) (option_map premiss_of test)
+    (written_behaviour_at next_place next)
+written_behaviour_at place (Inner' _ next_place next) = behaviour.inner_action (text_place_of place) (written_behaviour_at next_place next)
+written_behaviour_at place (Guard' test _ next_place next) =
+    behaviour.guard (text_place_of place) (premiss_of test) (written_behaviour_at next_place next)
+written_behaviour_at place (Hide' gates _ next_place next) =
+    behaviour.hide (text_place_of place) (placed_names_of gates.items) (written_behaviour_at next_place next)
+written_behaviour_at place (Let' values _ next_place next) =
+    behaviour.let_be (text_place_of place) (lets_of values.items) (written_behaviour_at next_place next)
+written_behaviour_at place (ChooseValue' variables _ next_place next) =
+    behaviour.choose_value (text_place_of place) (written_variables_of variables.items) (written_behaviour_at next_place next)
+written_behaviour_at place (ChooseGate' gates _ next_place next) =
+    behaviour.choose_gate (text_place_of place) (gate_choices_of gates.items) (written_behaviour_at next_place next)
+written_behaviour_at place (ParGate' gates sign _ next_place next) =
+    behaviour.par_gate (text_place_of place) (gate_choices_of gates.items) (sign_of sign) (written_behaviour_at next_place next)
+written_behaviour_at place (Binary' sign _ left_place left _ right_place right) =
+    behaviour.binary (text_place_of place) (sign_of sign) (written_behaviour_at left_place left) (written_behaviour_at right_place right)
 
-abbrev pub behaviour_of : BehText → WrittenBehaviour
-behaviour_of text = behaviour_at text.place text.form
+abbrev pub written_behaviour_of : BehText → WrittenBehaviour
+written_behaviour_of text = written_behaviour_at text.place text.form
 
 -- the sorts of `exit`, or None for `noexit`
-abbrev pub functionality_of : Option (Vec (Place × Name) Global) → Option (List PlacedName)
-functionality_of = option_map (λ sorts. placed_names_of sorts.items)
+abbrev pub written_functionality_of : Option (Vec (Place × Name) Global) → Option (List PlacedName)
+written_functionality_of = option_map (λ sorts. placed_names_of sorts.items)
 
 -- what stands before a body
 abbrev pub heading_of : Place → Name → List (Place × Name) → List VarText → Option (Vec (Place × Name) Global) → WrittenHeading
@@ -190,8 +190,8 @@ heading_of place name gates parameters functionality = record {
   place = text_place_of place;
   name = spelling name;
   gates = placed_names_of gates;
-  parameters = variables_of parameters;
-  functionality = functionality_of functionality;
+  parameters = written_variables_of parameters;
+  functionality = written_functionality_of functionality;
 }
 
 -- a declaration of a `where`, whose process is a plain value already
@@ -203,22 +203,22 @@ inner_level (InnerText-F.Process definition) = definition
 abbrev pub process_level : ProcessText-F WrittenInner WrittenInner → WrittenInner
 process_level definition =
     process (heading_of definition.place definition.name definition.gates.items definition.params.items definition.func)
-    (behaviour_of definition.body) (inners_of definition.inner.items)
+    (written_behaviour_of definition.body) (inners_of definition.inner.items)
 
 abbrev pub inner_of : InnerText → WrittenInner
 inner_of = fold-InnerText WrittenInner WrittenInner inner_level process_level
 
-abbrev pub process_of : ProcessText → WrittenInner
-process_of = fold-ProcessText WrittenInner WrittenInner inner_level process_level
+abbrev pub written_process_of : ProcessText → WrittenInner
+written_process_of = fold-ProcessText WrittenInner WrittenInner inner_level process_level
 
 abbrev pub inner_list_of : List InnerText → List WrittenInner
 inner_list_of inner = map inner_of inner
 
-abbrev pub specification_of : SpecText → WrittenSpecification
-specification_of text = record {
+abbrev pub written_specification_of : SpecText → WrittenSpecification
+written_specification_of text = record {
   heading = heading_of text.place text.name text.gates.items text.params.items text.func;
   items = map item_of text.items.items;
-  body = behaviour_of text.body;
+  body = written_behaviour_of text.body;
   inner = inner_list_of text.inner.items;
 }
 

@@ -1,7 +1,7 @@
 -- The signs that wait for their left sides while a flat list is grouped, from the root of the tree so far to its first
 -- operand.
 use Rattle.std.specs.Prelude.{◌≡◌, ℕ, ◌<◌, ◌≤◌, List, [], ◌∷◌, ◌++◌, All, map}
-use Rattle.syntax_trees.specs.Grouping.{Leftmost, closed, in_front}
+use Rattle.syntax_trees.specs.Grouping.{Leftmost, closed, sign_in_front}
 
 -- the last of the signs, if there is one, binds less strongly than that
 abbrev pub EndsWeaker : {W : Type 0} → (W → ℕ) → ℕ → List W → Type 0
@@ -27,4 +27,4 @@ grouped_onto strength join [] signs so_far = so_far
 grouped_onto strength join (operand ∷ operands) [] so_far = so_far
 grouped_onto strength join (operand ∷ operands) (sign ∷ signs) so_far =
     let rest = grouped_onto strength join operands signs so_far in
-    record { first = operand; waiting = in_front strength join sign rest.waiting rest.first }
+    record { first = operand; waiting = sign_in_front strength join sign rest.waiting rest.first }

@@ -2,8 +2,8 @@
 
 ghost use Rattle.std.specs.Prelude.{◌≡◌, ◌+◌, IfOk, Some, length, map};
 ghost use Rattle.syntax_trees.specs.Grouping.{IsGrouped, grouped};
-ghost use Rattle.syntax_trees.specs.Strength.{PlacedSign, joined, strength_of};
-ghost use Rattle.syntax_trees.specs.TreeViews.{behaviour_of, placed_sign_of};
+ghost use Rattle.syntax_trees.specs.Strength.{PlacedSign, joined_by_sign, strength_of};
+ghost use Rattle.syntax_trees.specs.TreeViews.{written_behaviour_of, placed_sign_of};
 ghost use Rattle.syntax_trees.specs.WrittenBehaviour.{WrittenBehaviour};
 
 use crate::behaviours::{BehForm, BehText, Sign};
@@ -18,13 +18,13 @@ impl Operand for BehText {
 
     ghost PlainSign = { PlacedSign };
 
-    ghost plain = { behaviour_of };
+    ghost plain = { written_behaviour_of };
 
     ghost plain_sign = { placed_sign_of };
 
     ghost binds = { strength_of };
 
-    ghost joined = { joined };
+    ghost joined = { joined_by_sign };
 
     fn strength(sign: &(Place, Sign)) -> u8
         ensures { result ≡ strength_of (placed_sign_of sign.now) }
@@ -43,8 +43,9 @@ impl Operand for BehText {
         left: BehText,
         right: BehText,
     ) -> Result<BehText, AllocError>
-        ensures { IfOk result (λ tree. behaviour_of tree
-            ≡ joined (placed_sign_of sign) (behaviour_of left) (behaviour_of right)) }
+        ensures { IfOk result (λ tree. written_behaviour_of tree
+            ≡ joined_by_sign (placed_sign_of sign) (written_behaviour_of left)
+            (written_behaviour_of right)) }
     {
         let form = BehForm::Binary(sign.1, Box::new(alloc, left)?, Box::new(alloc, right)?);
         Ok(BehText {
@@ -65,10 +66,11 @@ pub fn group(
 ) -> Result<BehText, NoMemory>
     requires { length operands.items ≡ length signs.items + 1 }
     ensures computed { IfOk result (λ tree.
-        grouped strength_of joined (map behaviour_of operands.items)
-        (map placed_sign_of signs.items) ≡ Some (behaviour_of tree)) }
-    ensures split { IfOk result (λ tree. IsGrouped strength_of joined
-        (map behaviour_of operands.items) (map placed_sign_of signs.items) (behaviour_of tree)) }
+        grouped strength_of joined_by_sign (map written_behaviour_of operands.items)
+        (map placed_sign_of signs.items) ≡ Some (written_behaviour_of tree)) }
+    ensures split { IfOk result (λ tree. IsGrouped strength_of joined_by_sign
+        (map written_behaviour_of operands.items) (map placed_sign_of signs.items)
+        (written_behaviour_of tree)) }
 {
     Ok(group_operands(alloc, operands, signs)?)
 }

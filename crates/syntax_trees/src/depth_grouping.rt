@@ -2,7 +2,7 @@
 //! signs.
 
 ghost use Rattle.std.specs.Prelude.{◌≡◌, ℕ, IfOk};
-ghost use Rattle.syntax_trees.specs.Firsts.{Firsts, between};
+ghost use Rattle.syntax_trees.specs.Firsts.{Firsts, firsts_between};
 ghost use Rattle.syntax_trees.specs.FirstsView.{firsts_of};
 
 use crate::firsts::FirstNodes;
@@ -22,7 +22,7 @@ impl Operand for FirstNodes {
 
     ghost binds = { λ strength. strength };
 
-    ghost joined = { λ strength. between };
+    ghost joined = { λ strength. firsts_between };
 
     fn strength(sign: &u8) -> u8
         ensures { result ≡ sign.now }
@@ -37,7 +37,7 @@ impl Operand for FirstNodes {
         right: FirstNodes,
     ) -> Result<FirstNodes, AllocError>
         ensures { IfOk result (λ nodes. firsts_of nodes
-            ≡ between (firsts_of left) (firsts_of right)) }
+            ≡ firsts_between (firsts_of left) (firsts_of right)) }
     {
         left.between(right)
     }

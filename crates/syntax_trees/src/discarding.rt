@@ -2,7 +2,7 @@
 //! dropped hang in one another.
 
 ghost use Rattle.std.specs.Prelude.{◌≡◌, ◌+◌, ◌<◌};
-ghost use Rattle.syntax_trees.specs.Counting.{IsCountingTurnOf, declared_by, declared_by_process, declared_in};
+ghost use Rattle.syntax_trees.specs.Counting.{IsCountingTurnOf, declarations_by, declared_by_process, declared_in};
 
 use crate::{InnerText, ProcessText, SpecText};
 use std::mem;
@@ -20,7 +20,7 @@ enum Turn {
 fn exchanged(process: ProcessText, inner: Vec<InnerText>) -> (InnerText, Vec<InnerText>)
     ensures own { result.1 ≡ process.inner }
     ensures before { declared_by_process process ≡ 1 + declared_in result.1.items }
-    ensures after { declared_by result.0 ≡ 1 + declared_in inner.items }
+    ensures after { declarations_by result.0 ≡ 1 + declared_in inner.items }
 {
     let ProcessText {
         place,
@@ -61,7 +61,7 @@ fn turned(process: ProcessText, others: Vec<InnerText>) -> Turn
 
 /// Drops a declaration, or a part of it, and gives what is left of it and of the others.
 fn opened(first: InnerText, others: Vec<InnerText>) -> Vec<InnerText>
-    ensures { declared_in result.items < declared_by first + declared_in others.items }
+    ensures { declared_in result.items < declarations_by first + declared_in others.items }
 {
     let mut first = first;
     let mut others = others;

@@ -2,7 +2,7 @@
 
 ghost use Rattle.std.specs.Prelude.{◌≡◌, ◌++◌, IfOk, drop, length, option_map, reverse};
 ghost use Rattle.lotos_base.specs.WrittenView.{text_place_of};
-ghost use Rattle.syntax_trees.specs.Firsts.{below, between, everywhere, first_from, followed};
+ghost use Rattle.syntax_trees.specs.Firsts.{firsts_below, firsts_between, everywhere, first_from, firsts_followed};
 ghost use Rattle.syntax_trees.specs.FirstsView.{firsts_of};
 
 use lotos_base::Place;
@@ -42,7 +42,7 @@ impl FirstNodes {
     /// With a node in front, which the others stand one below.
     pub fn below(self, place: Place) -> Result<FirstNodes, AllocError>
         ensures { IfOk result (λ nodes. firsts_of nodes
-            ≡ below (text_place_of place) (firsts_of self)) }
+            ≡ firsts_below (text_place_of place) (firsts_of self)) }
     {
         let FirstNodes { mut places, rest } = self;
         places.push(place)?;
@@ -53,7 +53,7 @@ impl FirstNodes {
     /// list.
     pub fn followed(self, behind: FirstNodes) -> Result<FirstNodes, AllocError>
         ensures { IfOk result (λ nodes. firsts_of nodes
-            ≡ followed (firsts_of self) (firsts_of behind)) }
+            ≡ firsts_followed (firsts_of self) (firsts_of behind)) }
     {
         if self.rest.is_some() {
             return Ok(self);
@@ -69,7 +69,7 @@ impl FirstNodes {
     /// Those of a node between this part and the part behind it, which both stand one below.
     pub fn between(self, behind: FirstNodes) -> Result<FirstNodes, AllocError>
         ensures { IfOk result (λ nodes. firsts_of nodes
-            ≡ between (firsts_of self) (firsts_of behind)) }
+            ≡ firsts_between (firsts_of self) (firsts_of behind)) }
     {
         match self.places.last().copied() {
             Some(place) => self.followed(behind)?.below(place),

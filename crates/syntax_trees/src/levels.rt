@@ -1,7 +1,7 @@
 //! Lists of declarations whose items are being taken out.
 
 ghost use Rattle.std.specs.Prelude.{◌≡◌, ◌<◌, ◌≤◌, ◌++◌, ◌∷◌, [], MatchOption, drop, length, take};
-ghost use Rattle.syntax_trees.specs.TreeViews.{heading_of, behaviour_of, inner_list_of, process_of};
+ghost use Rattle.syntax_trees.specs.TreeViews.{heading_of, written_behaviour_of, inner_list_of, written_process_of};
 ghost use Rattle.syntax_trees.specs.WrittenDefinition.{inners_of, process};
 
 use crate::behaviours::BehText;
@@ -118,9 +118,9 @@ impl Outer {
     pub fn of(definition: ProcessText, level: Level) -> (Outer, Vec<InnerText>)
         requires { level.kept < level.next }
         ensures level { result.0.level ≡ level }
-        ensures process { process_of definition
+        ensures process { written_process_of definition
             ≡ process (heading_of result.0.place result.0.name result.0.gates.items
-            result.0.params.items result.0.func) (behaviour_of result.0.body)
+            result.0.params.items result.0.func) (written_behaviour_of result.0.body)
             (inners_of (inner_list_of result.1.items)) }
     {
         let ProcessText {
@@ -149,7 +149,8 @@ impl Outer {
         ensures kept { inner_list_of (take result.kept result.list.items)
             ≡ inner_list_of (take self.level.kept self.level.list.items)
             ++ process (heading_of self.place self.name self.gates.items self.params.items
-            self.func) (behaviour_of self.body) (inners_of (inner_list_of inner.items)) ∷ [] }
+            self.func) (written_behaviour_of self.body)
+            (inners_of (inner_list_of inner.items)) ∷ [] }
         ensures ahead { drop result.next result.list.items
             ≡ drop self.level.next self.level.list.items }
     {

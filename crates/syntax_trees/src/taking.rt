@@ -2,7 +2,7 @@
 
 ghost use Rattle.std.specs.Prelude.{◌≡◌, ◌+◌, ◌<◌, ◌≤◌, ◌++◌, [], IfOk, OnErr, OnOk, map, vec_capacity, vec_len};
 ghost use Rattle.syntax_trees.specs.TakenItems.{declarations_among, declarations_in, items_of_inners, items_of_specification, processes_of, without_items};
-ghost use Rattle.syntax_trees.specs.TreeViews.{inner_list_of, inner_of, item_of, specification_of};
+ghost use Rattle.syntax_trees.specs.TreeViews.{inner_list_of, inner_of, item_of, written_specification_of};
 ghost use Rattle.syntax_trees.specs.WrittenDefinition.{inners_of, list_of_inners};
 
 use crate::definitions::{InnerText, SpecText};
@@ -90,10 +90,11 @@ impl SpecText {
     /// before.
     pub fn take_items(&mut self, alloc: Global) -> Result<Vec<ItemText>, NoMemory>
         ensures taken { IfOk result (λ items. map item_of items.items
-            ≡ items_of_specification (specification_of self.old)) }
-        ensures left { OnOk result (specification_of self.new
-            ≡ without_items (specification_of self.old)) }
-        ensures unchanged { OnErr result (specification_of self.new ≡ specification_of self.old) }
+            ≡ items_of_specification (written_specification_of self.old)) }
+        ensures left { OnOk result (written_specification_of self.new
+            ≡ without_items (written_specification_of self.old)) }
+        ensures unchanged { OnErr result
+            (written_specification_of self.new ≡ written_specification_of self.old) }
     {
         let count = count_declarations(alloc, &self.inner)?;
         let outer = Vec::with_capacity(alloc, count)?;

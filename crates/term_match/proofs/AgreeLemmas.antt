@@ -3,7 +3,7 @@ use Rattle.std.proofs.Common.{◌≡◌, ℕ, List, [], ◌∷◌, Bool, true, f
 use Rattle.std.specs.Prelude.{◌⊎◌, ◌||◌, if◌then◌else◌, Some, slice_get}
 use Rattle.std.proofs.lemmas.Option.{same_Some}
 use Rattle.std.proofs.lemmas.Bool.Decides.{Decides-eqb}
-use Rattle.std.proofs.lemmas.Bool.{or_left, or_right}
+use Rattle.std.proofs.lemmas.Bool.{or_left, or_right, or_cases}
 use Rattle.lotos_base.specs.Signature.{Signature, Operation}
 use Rattle.lotos_base.specs.Term.{variable, node, term_then}
 use Rattle.lotos_base.specs.Sorting.{Occurs, OccursAmong}
@@ -12,7 +12,7 @@ use Rattle.rewriting_theory.proofs.UnifyLemmas.{no_occurring_unifier}
 use Rattle.sort_terms.specs.ProfiledTerm.{ProfiledTerm, ProfiledTerms, profiled_variable, profiled_node, no_profiled_terms, profiled_term_then, bare, all_bare, head_sort, FitsProfiles, FitArguments, IsOf, AreOf, All}
 use Rattle.term_match.specs.ProfiledInstance.{ProfiledSubstitution, profiled_instance, profiled_instances}
 use Rattle.term_match.proofs.MatchLemmas.{IsInherited}
-use Rattle.term_match.specs.Disagreement.{TermDisagreement, agreed, clashing, binds, has_number, have_number, is_number, against, or_else, disagreement, disagreements, clashes, clash_among}
+use Rattle.term_match.specs.Disagreement.{TermDisagreement, agreed, clashing, binds, has_number, have_number, is_variable_numbered, against, disagreement_or_else, disagreement, disagreement_of_lists, clashes, terms_clash}
 
 -- ---- Numbers that stand in terms
 
@@ -56,7 +56,7 @@ same_binds : (n s m r : ℕ) (t u : ProfiledTerm) → binds n s t ≡ binds m r 
 same_binds n s m r t u e = (cc, cc, cc)
 
 against_bound : (n s : ℕ) (t : ProfiledTerm) (m r : ℕ) (u : ProfiledTerm) → against n s t ≡ binds m r u → IsBound n s t m r u
-against_bound n s t m r u e = go (is_number n t) (has_number n t) refl e
+against_bound n s t m r u e = go (is_variable_numbered n t) (has_number n t) refl e
   where
     go : (a b : Bool) → has_number n t ≡ b → (if a then agreed else (if b then clashing else binds n s t)) ≡ binds m r u
         → IsBound n s t m r u
@@ -65,38 +65,38 @@ against_bound n s t m r u e = go (is_number n t) (has_number n t) refl e
     go false false test h =
         let same = same_binds n s m r t u h in record { number = same.0; sort = same.1; value = same.2; apart = test }
 
-against_agreed : (n s : ℕ) (t : ProfiledTerm) → against n s t ≡ agreed → is_number n t ≡ true
-against_agreed n s t e = go (is_number n t) (has_number n t) e
+against_agreed : (n s : ℕ) (t : ProfiledTerm) → against n s t ≡ agreed → is_variable_numbered n t ≡ true
+against_agreed n s t e = go (is_variable_numbered n t) (has_number n t) e
   where
     go : (a b : Bool) → (if a then agreed else (if b then clashing else binds n s t)) ≡ agreed → a ≡ true
     go true b h = refl
     go false true h = cc
     go false false h = cc
 
-against_clashing : (n s : ℕ) (t : ProfiledTerm) → against n s t ≡ clashing → (is_number n t ≡ false) × (has_number n t ≡ true)
-against_clashing n s t e = go (is_number n t) (has_number n t) refl refl e
+against_clashing : (n s : ℕ) (t : ProfiledTerm) → against n s t ≡ clashing → (is_variable_numbered n t ≡ false) × (has_number n t ≡ true)
+against_clashing n s t e = go (is_variable_numbered n t) (has_number n t) refl refl e
   where
-    go : (a b : Bool) → is_number n t ≡ a → has_number n t ≡ b
+    go : (a b : Bool) → is_variable_numbered n t ≡ a → has_number n t ≡ b
         → (if a then agreed else (if b then clashing else binds n s t)) ≡ clashing
-        → (is_number n t ≡ false) × (has_number n t ≡ true)
+        → (is_variable_numbered n t ≡ false) × (has_number n t ≡ true)
     go true b one two h = cc
     go false true one two h = (one, two)
     go false false one two h = cc
 
 -- ---- Lists
 
-or_bound : (d e : TermDisagreement) (n s : ℕ) (t : ProfiledTerm) → or_else d e ≡ binds n s t
+or_bound : (d e : TermDisagreement) (n s : ℕ) (t : ProfiledTerm) → disagreement_or_else d e ≡ binds n s t
     → (d ≡ binds n s t) ⊎ ((d ≡ agreed) × (e ≡ binds n s t))
 or_bound agreed e n s t h = inr (refl, h)
 or_bound clashing e n s t h = cc
 or_bound (binds m r u) e n s t h = inl h
 
-or_agreed : (d e : TermDisagreement) → or_else d e ≡ agreed → (d ≡ agreed) × (e ≡ agreed)
+or_agreed : (d e : TermDisagreement) → disagreement_or_else d e ≡ agreed → (d ≡ agreed) × (e ≡ agreed)
 or_agreed agreed e h = (refl, h)
 or_agreed clashing e h = cc
 or_agreed (binds m r u) e h = cc
 
-or_clashing : (d e : TermDisagreement) → or_else d e ≡ clashing → (d ≡ clashing) ⊎ (e ≡ clashing)
+or_clashing : (d e : TermDisagreement) → disagreement_or_else d e ≡ clashing → (d ≡ clashing) ⊎ (e ≡ clashing)
 or_clashing agreed e h = inr h
 or_clashing clashing e h = inl refl
 or_clashing (binds m r u) e h = cc
@@ -123,21 +123,21 @@ mutual
       let is = against_bound m q (profiled_node f operation ts) n s t e in
       (subst P (λ i. profiled_variable (is.number i) (is.sort i)) o, subst P is.value p)
   bound_parts P inherited (profiled_node f operation ts) (profiled_node g other us) n s t e p o =
-      all_bound_parts P inherited ts us n s t (if_bound (nat_eq f g) (disagreements ts us) n s t e).1
+      all_bound_parts P inherited ts us n s t (if_bound (nat_eq f g) (disagreement_of_lists ts us) n s t e).1
       (inherited f operation ts p) (inherited g other us o)
 
   all_bound_parts : (P : ProfiledTerm → Type 0) → IsInherited P → (ls rs : ProfiledTerms) (n s : ℕ) (t : ProfiledTerm)
-      → disagreements ls rs ≡ binds n s t → All P ls → All P rs → P (profiled_variable n s) × P t
+      → disagreement_of_lists ls rs ≡ binds n s t → All P ls → All P rs → P (profiled_variable n s) × P t
   all_bound_parts P inherited no_profiled_terms no_profiled_terms n s t e p o = cc
   all_bound_parts P inherited no_profiled_terms (profiled_term_then u us) n s t e p o = cc
   all_bound_parts P inherited (profiled_term_then l ls) no_profiled_terms n s t e p o = cc
   all_bound_parts P inherited (profiled_term_then l ls) (profiled_term_then r rs) n s t e p o =
-      go (or_bound (disagreement l r) (disagreements ls rs) n s t e)
+      go (or_bound (disagreement l r) (disagreement_of_lists ls rs) n s t e)
       (λ h. bound_parts P inherited l r n s t h p.0 o.0) (λ h. all_bound_parts P inherited ls rs n s t h p.1 o.1)
     where
-      go : (disagreement l r ≡ binds n s t) ⊎ ((disagreement l r ≡ agreed) × (disagreements ls rs ≡ binds n s t))
+      go : (disagreement l r ≡ binds n s t) ⊎ ((disagreement l r ≡ agreed) × (disagreement_of_lists ls rs ≡ binds n s t))
           → (disagreement l r ≡ binds n s t → P (profiled_variable n s) × P t)
-          → (disagreements ls rs ≡ binds n s t → P (profiled_variable n s) × P t) → P (profiled_variable n s) × P t
+          → (disagreement_of_lists ls rs ≡ binds n s t → P (profiled_variable n s) × P t) → P (profiled_variable n s) × P t
       go (inl h) first rest = first h
       go (inr h) first rest = rest h.1
 
@@ -151,19 +151,20 @@ mutual
       let is = against_bound m q (profiled_node f operation ts) n s t e in
       (λ i. has_number (sym is.number i) (sym is.value i)) ∙ is.apart
   bound_apart (profiled_node f operation ts) (profiled_node g other us) n s t e =
-      all_bound_apart ts us n s t (if_bound (nat_eq f g) (disagreements ts us) n s t e).1
+      all_bound_apart ts us n s t (if_bound (nat_eq f g) (disagreement_of_lists ts us) n s t e).1
 
-  all_bound_apart : (ls rs : ProfiledTerms) (n s : ℕ) (t : ProfiledTerm) → disagreements ls rs ≡ binds n s t → has_number n t ≡ false
+  all_bound_apart : (ls rs : ProfiledTerms) (n s : ℕ) (t : ProfiledTerm) → disagreement_of_lists ls rs ≡ binds n s t
+      → has_number n t ≡ false
   all_bound_apart no_profiled_terms no_profiled_terms n s t e = cc
   all_bound_apart no_profiled_terms (profiled_term_then u us) n s t e = cc
   all_bound_apart (profiled_term_then l ls) no_profiled_terms n s t e = cc
   all_bound_apart (profiled_term_then l ls) (profiled_term_then r rs) n s t e =
-      go (or_bound (disagreement l r) (disagreements ls rs) n s t e)
+      go (or_bound (disagreement l r) (disagreement_of_lists ls rs) n s t e)
       (λ h. bound_apart l r n s t h) (λ h. all_bound_apart ls rs n s t h)
     where
-      go : (disagreement l r ≡ binds n s t) ⊎ ((disagreement l r ≡ agreed) × (disagreements ls rs ≡ binds n s t))
+      go : (disagreement l r ≡ binds n s t) ⊎ ((disagreement l r ≡ agreed) × (disagreement_of_lists ls rs ≡ binds n s t))
           → (disagreement l r ≡ binds n s t → has_number n t ≡ false)
-          → (disagreements ls rs ≡ binds n s t → has_number n t ≡ false) → has_number n t ≡ false
+          → (disagreement_of_lists ls rs ≡ binds n s t → has_number n t ≡ false) → has_number n t ≡ false
       go (inl h) first rest = first h
       go (inr h) first rest = rest h.1
 
@@ -179,9 +180,9 @@ mutual
       (λ i. values (sym is.number i) (sym is.sort i)) ∙ sym same ∙ (λ i. substituted values (bare (is.value i)))
   bound_same values (profiled_node f operation ts) (profiled_node g other us) n s t e same =
       let tails : all_substituted values (all_bare ts) ≡ all_substituted values (all_bare us) = cc in
-      all_bound_same values ts us n s t (if_bound (nat_eq f g) (disagreements ts us) n s t e).1 tails
+      all_bound_same values ts us n s t (if_bound (nat_eq f g) (disagreement_of_lists ts us) n s t e).1 tails
 
-  all_bound_same : (values : Substitution) (ls rs : ProfiledTerms) (n s : ℕ) (t : ProfiledTerm) → disagreements ls rs ≡ binds n s t
+  all_bound_same : (values : Substitution) (ls rs : ProfiledTerms) (n s : ℕ) (t : ProfiledTerm) → disagreement_of_lists ls rs ≡ binds n s t
       → all_substituted values (all_bare ls) ≡ all_substituted values (all_bare rs) → values n s ≡ substituted values (bare t)
   all_bound_same values no_profiled_terms no_profiled_terms n s t e same = cc
   all_bound_same values no_profiled_terms (profiled_term_then u us) n s t e same = cc
@@ -189,12 +190,13 @@ mutual
   all_bound_same values (profiled_term_then l ls) (profiled_term_then r rs) n s t e same =
       let heads : substituted values (bare l) ≡ substituted values (bare r) = cc in
       let tails : all_substituted values (all_bare ls) ≡ all_substituted values (all_bare rs) = cc in
-      go (or_bound (disagreement l r) (disagreements ls rs) n s t e)
+      go (or_bound (disagreement l r) (disagreement_of_lists ls rs) n s t e)
       (λ h. bound_same values l r n s t h heads) (λ h. all_bound_same values ls rs n s t h tails)
     where
-      go : (disagreement l r ≡ binds n s t) ⊎ ((disagreement l r ≡ agreed) × (disagreements ls rs ≡ binds n s t))
+      go : (disagreement l r ≡ binds n s t) ⊎ ((disagreement l r ≡ agreed) × (disagreement_of_lists ls rs ≡ binds n s t))
           → (disagreement l r ≡ binds n s t → values n s ≡ substituted values (bare t))
-          → (disagreements ls rs ≡ binds n s t → values n s ≡ substituted values (bare t)) → values n s ≡ substituted values (bare t)
+          → (disagreement_of_lists ls rs ≡ binds n s t → values n s ≡ substituted values (bare t))
+          → values n s ≡ substituted values (bare t)
       go (inl h) first rest = first h
       go (inr h) first rest = rest h.1
 
@@ -210,10 +212,10 @@ mutual
       (λ i. values (sym is.number i) (sym is.sort i)) ∙ sym same ∙ (λ i. profiled_instance values (is.value i))
   bound_whole values (profiled_node f operation ts) (profiled_node g other us) n s t e same =
       let tails : profiled_instances values ts ≡ profiled_instances values us = cc in
-      all_bound_whole values ts us n s t (if_bound (nat_eq f g) (disagreements ts us) n s t e).1 tails
+      all_bound_whole values ts us n s t (if_bound (nat_eq f g) (disagreement_of_lists ts us) n s t e).1 tails
 
   all_bound_whole : (values : ProfiledSubstitution) (ls rs : ProfiledTerms) (n s : ℕ) (t : ProfiledTerm)
-      → disagreements ls rs ≡ binds n s t
+      → disagreement_of_lists ls rs ≡ binds n s t
       → profiled_instances values ls ≡ profiled_instances values rs → values n s ≡ profiled_instance values t
   all_bound_whole values no_profiled_terms no_profiled_terms n s t e same = cc
   all_bound_whole values no_profiled_terms (profiled_term_then u us) n s t e same = cc
@@ -221,12 +223,12 @@ mutual
   all_bound_whole values (profiled_term_then l ls) (profiled_term_then r rs) n s t e same =
       let heads : profiled_instance values l ≡ profiled_instance values r = cc in
       let tails : profiled_instances values ls ≡ profiled_instances values rs = cc in
-      go (or_bound (disagreement l r) (disagreements ls rs) n s t e)
+      go (or_bound (disagreement l r) (disagreement_of_lists ls rs) n s t e)
       (λ h. bound_whole values l r n s t h heads) (λ h. all_bound_whole values ls rs n s t h tails)
     where
-      go : (disagreement l r ≡ binds n s t) ⊎ ((disagreement l r ≡ agreed) × (disagreements ls rs ≡ binds n s t))
+      go : (disagreement l r ≡ binds n s t) ⊎ ((disagreement l r ≡ agreed) × (disagreement_of_lists ls rs ≡ binds n s t))
           → (disagreement l r ≡ binds n s t → values n s ≡ profiled_instance values t)
-          → (disagreements ls rs ≡ binds n s t → values n s ≡ profiled_instance values t) → values n s ≡ profiled_instance values t
+          → (disagreement_of_lists ls rs ≡ binds n s t → values n s ≡ profiled_instance values t) → values n s ≡ profiled_instance values t
       go (inl h) first rest = first h
       go (inr h) first rest = rest h.1
 
@@ -241,7 +243,7 @@ mutual
       let is = against_bound m q (profiled_node f operation ts) n s t e in
       sym (ap head_sort is.value) ∙ heads ∙ is.sort
   bound_sort signature (profiled_node f operation ts) (profiled_node g other us) n s t e one two fits also heads =
-      let through = if_bound (nat_eq f g) (disagreements ts us) n s t e in
+      let through = if_bound (nat_eq f g) (disagreement_of_lists ts us) n s t e in
       let same : operation ≡ other =
       same_Some operation other
       (subst (λ (k : ℕ). Some operation ≡ slice_get signature.operations k) ((Decides-eqb f g).0 through.0) (sym one.0)
@@ -249,19 +251,19 @@ mutual
       all_bound_sort signature ts us n s t through.1 one.1 two.1 operation.arguments fits
       (subst (λ (o : Operation). FitArguments us o.arguments) (sym same) also)
 
-  all_bound_sort : (signature : Signature) (ls rs : ProfiledTerms) (n s : ℕ) (t : ProfiledTerm) → disagreements ls rs ≡ binds n s t
+  all_bound_sort : (signature : Signature) (ls rs : ProfiledTerms) (n s : ℕ) (t : ProfiledTerm) → disagreement_of_lists ls rs ≡ binds n s t
       → AreOf signature ls → AreOf signature rs → (sorts : List ℕ) → FitArguments ls sorts → FitArguments rs sorts → head_sort t ≡ s
   all_bound_sort signature no_profiled_terms no_profiled_terms n s t e one two sorts fit also = cc
   all_bound_sort signature no_profiled_terms (profiled_term_then u us) n s t e one two sorts fit also = cc
   all_bound_sort signature (profiled_term_then l ls) no_profiled_terms n s t e one two sorts fit also = cc
   all_bound_sort signature (profiled_term_then l ls) (profiled_term_then r rs) n s t e one two [] fit also = absurd fit
   all_bound_sort signature (profiled_term_then l ls) (profiled_term_then r rs) n s t e one two (q ∷ sorts) fit also =
-      go (or_bound (disagreement l r) (disagreements ls rs) n s t e)
+      go (or_bound (disagreement l r) (disagreement_of_lists ls rs) n s t e)
       (λ h. bound_sort signature l r n s t h one.0 two.0 fit.1 also.1 (fit.0 ∙ sym also.0))
       (λ h. all_bound_sort signature ls rs n s t h one.1 two.1 sorts fit.2 also.2)
     where
-      go : (disagreement l r ≡ binds n s t) ⊎ ((disagreement l r ≡ agreed) × (disagreements ls rs ≡ binds n s t))
-          → (disagreement l r ≡ binds n s t → head_sort t ≡ s) → (disagreements ls rs ≡ binds n s t → head_sort t ≡ s)
+      go : (disagreement l r ≡ binds n s t) ⊎ ((disagreement l r ≡ agreed) × (disagreement_of_lists ls rs ≡ binds n s t))
+          → (disagreement l r ≡ binds n s t → head_sort t ≡ s) → (disagreement_of_lists ls rs ≡ binds n s t → head_sort t ≡ s)
           → head_sort t ≡ s
       go (inl h) first rest = first h
       go (inr h) first rest = rest h.1
@@ -280,7 +282,8 @@ abbrev AllWithin : (ℕ → ℕ → Type 0) → ProfiledTerms → Type 0
 AllWithin Has ts = (n s : ℕ) → OccursAmong n s (all_bare ts) → Has n s
 
 -- the variable with a number, where it has one sort
-number_same : (Has : ℕ → ℕ → Type 0) → IsSingle Has → (n s : ℕ) (t : ProfiledTerm) → Has n s → Within Has t → is_number n t ≡ true
+number_same : (Has : ℕ → ℕ → Type 0) → IsSingle Has → (n s : ℕ) (t : ProfiledTerm) → Has n s → Within Has t
+    → is_variable_numbered n t ≡ true
     → variable n s ≡ bare t
 number_same Has single n s (profiled_variable m r) has within e =
     let numbers : m ≡ n = (Decides-eqb m n).0 e in
@@ -297,23 +300,24 @@ mutual
       sym (number_same Has single m q (profiled_node f operation ts) (two m q (refl, refl)) one
       (against_agreed m q (profiled_node f operation ts) e))
   agreed_same Has single (profiled_node f operation ts) (profiled_node g other us) one two e =
-      let through = if_agreed (nat_eq f g) (disagreements ts us) e in
+      let through = if_agreed (nat_eq f g) (disagreement_of_lists ts us) e in
       let tails = all_agreed_same Has single ts us one two through.1 in
       λ i. node ((Decides-eqb f g).0 through.0 i) (tails i)
 
   all_agreed_same : (Has : ℕ → ℕ → Type 0) → IsSingle Has → (ls rs : ProfiledTerms) → AllWithin Has ls → AllWithin Has rs
-      → disagreements ls rs ≡ agreed → all_bare ls ≡ all_bare rs
+      → disagreement_of_lists ls rs ≡ agreed → all_bare ls ≡ all_bare rs
   all_agreed_same Has single no_profiled_terms no_profiled_terms one two e = refl
   all_agreed_same Has single no_profiled_terms (profiled_term_then u us) one two e = cc
   all_agreed_same Has single (profiled_term_then l ls) no_profiled_terms one two e = cc
   all_agreed_same Has single (profiled_term_then l ls) (profiled_term_then r rs) one two e =
-      let through = or_agreed (disagreement l r) (disagreements ls rs) e in
+      let through = or_agreed (disagreement l r) (disagreement_of_lists ls rs) e in
       let head = agreed_same Has single l r (λ n s o. one n s (inl o)) (λ n s o. two n s (inl o)) through.0 in
       let tail = all_agreed_same Has single ls rs (λ n s o. one n s (inr o)) (λ n s o. two n s (inr o)) through.1 in
       λ i. term_then (head i) (tail i)
 
 -- a variable that stands inside an operation has no unifier with it
-inside_none : (Has : ℕ → ℕ → Type 0) → IsSingle Has → (n s : ℕ) (t : ProfiledTerm) → Has n s → Within Has t → is_number n t ≡ false
+inside_none : (Has : ℕ → ℕ → Type 0) → IsSingle Has → (n s : ℕ) (t : ProfiledTerm) → Has n s → Within Has t
+    → is_variable_numbered n t ≡ false
     → has_number n t ≡ true → (values : Substitution) → values n s ≡ substituted values (bare t) → ⊥
 inside_none Has single n s (profiled_variable m r) has within not_it is values same =
     let clash : true ≡ false = sym is ∙ not_it in cc
@@ -334,8 +338,8 @@ mutual
   clashing_none Has single values (profiled_node f operation ts) (profiled_node g other us) one two e same =
       go (nat_eq f g) refl e (λ h. all_clashing_none Has single values ts us one two h cc)
     where
-      go : (b : Bool) → nat_eq f g ≡ b → (if b then disagreements ts us else clashing) ≡ clashing
-          → (disagreements ts us ≡ clashing → ⊥) → ⊥
+      go : (b : Bool) → nat_eq f g ≡ b → (if b then disagreement_of_lists ts us else clashing) ≡ clashing
+          → (disagreement_of_lists ts us ≡ clashing → ⊥) → ⊥
       go true test h rest = rest h
       go false test h rest =
           let heads : f ≡ g = cc in
@@ -343,7 +347,7 @@ mutual
           let clash : true ≡ false = sym yes ∙ test in cc
 
   all_clashing_none : (Has : ℕ → ℕ → Type 0) → IsSingle Has → (values : Substitution) (ls rs : ProfiledTerms) → AllWithin Has ls
-      → AllWithin Has rs → disagreements ls rs ≡ clashing
+      → AllWithin Has rs → disagreement_of_lists ls rs ≡ clashing
       → all_substituted values (all_bare ls) ≡ all_substituted values (all_bare rs) → ⊥
   all_clashing_none Has single values no_profiled_terms no_profiled_terms one two e same = cc
   all_clashing_none Has single values no_profiled_terms (profiled_term_then u us) one two e same = cc
@@ -351,20 +355,16 @@ mutual
   all_clashing_none Has single values (profiled_term_then l ls) (profiled_term_then r rs) one two e same =
       let heads : substituted values (bare l) ≡ substituted values (bare r) = cc in
       let tails : all_substituted values (all_bare ls) ≡ all_substituted values (all_bare rs) = cc in
-      go (or_clashing (disagreement l r) (disagreements ls rs) e)
+      go (or_clashing (disagreement l r) (disagreement_of_lists ls rs) e)
       (λ h. clashing_none Has single values l r (λ n s o. one n s (inl o)) (λ n s o. two n s (inl o)) h heads)
       (λ h. all_clashing_none Has single values ls rs (λ n s o. one n s (inr o)) (λ n s o. two n s (inr o)) h tails)
     where
-      go : (disagreement l r ≡ clashing) ⊎ (disagreements ls rs ≡ clashing) → (disagreement l r ≡ clashing → ⊥)
-          → (disagreements ls rs ≡ clashing → ⊥) → ⊥
+      go : (disagreement l r ≡ clashing) ⊎ (disagreement_of_lists ls rs ≡ clashing) → (disagreement l r ≡ clashing → ⊥)
+          → (disagreement_of_lists ls rs ≡ clashing → ⊥) → ⊥
       go (inl h) first rest = first h
       go (inr h) first rest = rest h
 
 -- ---- Two operations that clash
-
-or_true : (a b : Bool) → (a || b) ≡ true → (a ≡ true) ⊎ (b ≡ true)
-or_true true b e = inl refl
-or_true false b e = inr e
 
 -- terms whose operations clash have no instances that are one, whatever is put for the variables of each
 mutual
@@ -375,14 +375,14 @@ mutual
   clashing_apart values others (profiled_node f operation ts) (profiled_node g other us) e same =
       go (nat_eq f g) refl e (λ h. all_clashing_apart values others ts us h cc)
     where
-      go : (b : Bool) → nat_eq f g ≡ b → (if b then clash_among ts us else true) ≡ true → (clash_among ts us ≡ true → ⊥) → ⊥
+      go : (b : Bool) → nat_eq f g ≡ b → (if b then terms_clash ts us else true) ≡ true → (terms_clash ts us ≡ true → ⊥) → ⊥
       go true test h rest = rest h
       go false test h rest =
           let heads : f ≡ g = cc in
           let yes : nat_eq f g ≡ true = (Decides-eqb f g).1 heads in
           let clash : true ≡ false = sym yes ∙ test in cc
 
-  all_clashing_apart : (values others : Substitution) (ls rs : ProfiledTerms) → clash_among ls rs ≡ true
+  all_clashing_apart : (values others : Substitution) (ls rs : ProfiledTerms) → terms_clash ls rs ≡ true
       → all_substituted values (all_bare ls) ≡ all_substituted others (all_bare rs) → ⊥
   all_clashing_apart values others no_profiled_terms no_profiled_terms e same = cc
   all_clashing_apart values others no_profiled_terms (profiled_term_then u us) e same = cc
@@ -390,9 +390,9 @@ mutual
   all_clashing_apart values others (profiled_term_then l ls) (profiled_term_then r rs) e same =
       let heads : substituted values (bare l) ≡ substituted others (bare r) = cc in
       let tails : all_substituted values (all_bare ls) ≡ all_substituted others (all_bare rs) = cc in
-      go (or_true (clashes l r) (clash_among ls rs) e)
+      go (or_cases (clashes l r) (terms_clash ls rs) e)
       (λ h. clashing_apart values others l r h heads) (λ h. all_clashing_apart values others ls rs h tails)
     where
-      go : (clashes l r ≡ true) ⊎ (clash_among ls rs ≡ true) → (clashes l r ≡ true → ⊥) → (clash_among ls rs ≡ true → ⊥) → ⊥
+      go : (clashes l r ≡ true) ⊎ (terms_clash ls rs ≡ true) → (clashes l r ≡ true → ⊥) → (terms_clash ls rs ≡ true → ⊥) → ⊥
       go (inl h) first rest = first h
       go (inr h) first rest = rest h

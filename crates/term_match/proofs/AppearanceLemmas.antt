@@ -1,62 +1,21 @@
 -- Positions in the list of first appearances number the variables of a term by first appearance.
 use Rattle.std.proofs.Common.{◌≡◌, ◌<◌, ◌+◌, ℕ, zero, suc, List, [], ◌∷◌, ◌++◌, length, map, Bool, true, false, nat_eq, refl, ap, sym, ◌∙◌, subst, inl, inr, arith, append_assoc, length-append}
-use Rattle.std.specs.Prelude.{◌⊎◌, if◌then◌else◌, Some, None, slice_get}
+use Rattle.std.specs.Prelude.{if◌then◌else◌, Some, None, slice_get}
 use Rattle.std.proofs.lemmas.Option.{same_Some}
 use Rattle.std.proofs.lemmas.List.{map-append}
 use Rattle.std.proofs.lemmas.Bool.Decides.{Decides-eqb}
-use Rattle.lotos_base.proofs.Numbers.{smaller}
 use Rattle.lotos_base.specs.Term.{Term, variable, node, Terms, no_terms, term_then}
 use Rattle.lotos_base.specs.Sorting.{Occurs}
 use Rattle.lotos_base.specs.Substitution.{substituted, all_substituted, renaming, is_listed}
 use Rattle.lotos_base.proofs.SubstitutionLemmas.{substituted_occurs}
 use Rattle.rewriting_theory.specs.Numbering.{variable_numbers, all_variable_numbers, IsByAppearance}
 use Rattle.rewriting_theory.proofs.PlaceListLemmas.{IsIn}
+use Rattle.rewriting_theory.proofs.NumberLemmas.{go_on_by_appearance, GoOn}
 use Rattle.term_match.specs.Numbers.{AreDistinctNumbers}
 use Rattle.term_match.specs.Appearance.{noted, appearances, counted}
 use Rattle.term_match.specs.Renumbering.{new_number, old_numbers, new_numbers}
 use Rattle.term_match.specs.NewNumbers.{IsByFirstAppearance}
 use Rattle.term_match.proofs.NumberLemmas.{noted_extends, distinct_tells, appears}
-
--- ---- Numbers that go on from a number
-
--- Each number is smaller than the next new one, or is it.
-abbrev GoOn : ℕ → List ℕ → Type 0
-GoOn next [] = Unit {0}
-GoOn next (n ∷ ns) = ((n < next) × GoOn next ns) ⊎ ((n ≡ next) × GoOn (suc next) ns)
-
--- A smaller number than the one at a position is smaller than the next new one, or stands before it.
-abbrev StandsBefore : ℕ → List ℕ → ℕ → ℕ → Type 0
-StandsBefore next ns i m = (m < next) ⊎ ((j : ℕ) × (j < i) × (slice_get ns j ≡ Some m))
-
-later : (next n i m : ℕ) (ns : List ℕ) → StandsBefore next ns i m → StandsBefore next (n ∷ ns) (suc i) m
-later next n i m ns (inl less) = inl less
-later next n i m ns (inr (j, less, e)) = inr (suc j, omega (arith, less), e)
-
-later_new : (next n i m : ℕ) (ns : List ℕ) → n ≡ next → StandsBefore (suc next) ns i m → StandsBefore next (n ∷ ns) (suc i) m
-later_new next n i m ns same (inr (j, less, e)) = inr (suc j, omega (arith, less), e)
-later_new next n i m ns same (inl less) = go (nat_eq n m) refl
-  where
-    go : (b : Bool) → nat_eq n m ≡ b → StandsBefore next (n ∷ ns) (suc i) m
-    go true e = inr (0, omega arith, ap (λ (k : ℕ). Some k) ((Decides-eqb n m).0 e))
-    go false e =
-        let differ : n ≡ m → ⊥ = λ is. (let other : nat_eq n m ≡ true = (Decides-eqb n m).1 is in cc) in
-        inl (smaller n m next same less differ)
-
-go_on_before : (ns : List ℕ) (next : ℕ) → GoOn next ns → (i n m : ℕ) → slice_get ns i ≡ Some n → m < n → StandsBefore next ns i m
-go_on_before [] next on i n m is less = let none : None ≡ Some n = is in cc
-go_on_before (k ∷ ns) next (inl (small, on)) zero n m is less =
-    let same : k ≡ n = same_Some k n is in inl (omega (arith, same, small, less))
-go_on_before (k ∷ ns) next (inl (small, on)) (suc i) n m is less = later next k i m ns (go_on_before ns next on i n m is less)
-go_on_before (k ∷ ns) next (inr (new, on)) zero n m is less =
-    let same : k ≡ n = same_Some k n is in inl (omega (arith, same, new, less))
-go_on_before (k ∷ ns) next (inr (new, on)) (suc i) n m is less = later_new next k i m ns new (go_on_before ns (suc next) on i n m is less)
-
-go_on_by_appearance : (ns : List ℕ) → GoOn 0 ns → IsByAppearance ns
-go_on_by_appearance ns on = λ i n m is less. go i m (go_on_before ns 0 on i n m is less)
-  where
-    go : (i m : ℕ) → StandsBefore 0 ns i m → (j : ℕ) × (j < i) × (slice_get ns j ≡ Some m)
-    go i m (inl less) = absurd (omega (arith, less))
-    go i m (inr before) = before
 
 -- ---- Positions
 

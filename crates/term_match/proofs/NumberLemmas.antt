@@ -9,7 +9,7 @@ use Rattle.lotos_base.specs.Substitution.{substituted, renaming, is_listed}
 use Rattle.rewriting_theory.specs.Numbering.{variable_numbers, all_variable_numbers}
 use Rattle.rewriting_theory.proofs.PlaceListLemmas.{IsIn, in_left, in_right}
 use Rattle.sort_terms.specs.ProfiledTerm.{ProfiledTerm, bare, FitsProfiles}
-use Rattle.sort_terms.specs.TermView.{terms_of, term_of}
+use Rattle.sort_terms.specs.TermView.{bare_terms_of, term_of}
 use Rattle.sort_terms.specs.declared.terms.Term.{Term as CodeTerm}
 use Rattle.term_match.specs.Numbers.{AreDistinctNumbers}
 use Rattle.term_match.specs.ProfiledInstance.{profiled_instance}
@@ -87,15 +87,15 @@ appears n s t o = in_noted n [] (variable_numbers t) (occurs_in n s t o)
 
 -- one more term of a list of the code
 pub note_more : (xs : List CodeTerm) (i : ℕ) (x : CodeTerm) (whole seen more : List ℕ) → i < length xs → x ≡ get_or xs i x
-    → whole ≡ noted seen (all_variable_numbers (terms_of (drop i xs))) → more ≡ noted seen (variable_numbers (term_of x))
-    → whole ≡ noted more (all_variable_numbers (terms_of (drop (i + 1) xs)))
+    → whole ≡ noted seen (all_variable_numbers (bare_terms_of (drop i xs))) → more ≡ noted seen (variable_numbers (term_of x))
+    → whole ≡ noted more (all_variable_numbers (bare_terms_of (drop (i + 1) xs)))
 note_more xs i x whole seen more h e so_far is =
     so_far
-    ∙ ap (λ (ys : List CodeTerm). noted seen (all_variable_numbers (terms_of ys))) (drop-cons xs i x h)
-    ∙ ap (λ (y : CodeTerm). noted seen (all_variable_numbers (terms_of (y ∷ drop (suc i) xs)))) (sym e)
-    ∙ noted-append seen (variable_numbers (term_of x)) (all_variable_numbers (terms_of (drop (suc i) xs)))
-    ∙ (λ j. noted (sym is j) (all_variable_numbers (terms_of (drop (suc i) xs))))
-    ∙ ap (λ (k : ℕ). noted more (all_variable_numbers (terms_of (drop k xs)))) (sym (add-one i))
+    ∙ ap (λ (ys : List CodeTerm). noted seen (all_variable_numbers (bare_terms_of ys))) (drop-cons xs i x h)
+    ∙ ap (λ (y : CodeTerm). noted seen (all_variable_numbers (bare_terms_of (y ∷ drop (suc i) xs)))) (sym e)
+    ∙ noted-append seen (variable_numbers (term_of x)) (all_variable_numbers (bare_terms_of (drop (suc i) xs)))
+    ∙ (λ j. noted (sym is j) (all_variable_numbers (bare_terms_of (drop (suc i) xs))))
+    ∙ ap (λ (k : ℕ). noted more (all_variable_numbers (bare_terms_of (drop k xs)))) (sym (add-one i))
 
 -- ---- What a pair gives
 

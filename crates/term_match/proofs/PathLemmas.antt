@@ -16,7 +16,7 @@ use Rattle.sort_terms.specs.TermView.{profiled_of, all_profiled}
 use Rattle.sort_terms.specs.SortedView.{profiled_in}
 use Rattle.sort_terms.specs.declared.sorted.Sorted.{Sorted}
 use Rattle.sort_terms.specs.declared.terms.Term.{Term}
-use Rattle.term_match.specs.ProfiledPath.{profiled_argument_at, with_profiled_argument, profiled_subterm, profiled_put_at, where_sorts_agree, replaced, LeadsToSort}
+use Rattle.term_match.specs.ProfiledPath.{profiled_argument_at, with_profiled_argument, profiled_subterm, profiled_put_at, where_sorts_agree, with_part_replaced, LeadsToSort}
 
 -- ---- Without profiles
 
@@ -258,21 +258,10 @@ put_into_argument path part f operation xs x o h within is found =
 
 -- ---- Where sorts differ nothing is put, and where they agree what the path leads to
 
-pub not_replaced : (path : List ℕ) (part t old : ProfiledTerm) → profiled_subterm path t ≡ Some old
-    → (head_sort old ≡ head_sort part → ⊥) → None ≡ replaced path part t
-not_replaced path part t old found differ = rw found (go (nat_eq (head_sort old) (head_sort part)) refl)
-  where
-    go : (b : Bool) → nat_eq (head_sort old) (head_sort part) ≡ b → None ≡ (if b then profiled_put_at path part t else None)
-    go true e = absurd (differ ((Decides-eqb (head_sort old) (head_sort part)).0 e))
-    go false e = refl
-
 pub replaced_at : (path : List ℕ) (part t old : ProfiledTerm) → profiled_subterm path t ≡ Some old
-    → head_sort old ≡ head_sort part → profiled_put_at path part t ≡ replaced path part t
+    → head_sort old ≡ head_sort part → profiled_put_at path part t ≡ with_part_replaced path part t
 replaced_at path part t old found same =
     rw (found, (Decides-eqb (head_sort old) (head_sort part)).1 same) refl
-
-pub not_replaced_past : (path : List ℕ) (part t : ProfiledTerm) → profiled_subterm path t ≡ None → None ≡ replaced path part t
-not_replaced_past path part t found = rw found refl
 
 -- ---- What an answer says of the path
 
@@ -289,7 +278,7 @@ put_exists (k ∷ path) part (profiled_node f operation ts) old found =
     )
 
 -- the parts of a replacement
-replaced_some : (path : List ℕ) (part t whole : ProfiledTerm) → replaced path part t ≡ Some whole
+replaced_some : (path : List ℕ) (part t whole : ProfiledTerm) → with_part_replaced path part t ≡ Some whole
     → LeadsToSort path part t × (profiled_put_at path part t ≡ Some whole)
 replaced_some path part t whole e =
     let found = chained (where_sorts_agree part (profiled_put_at path part t)) (profiled_subterm path t) e in
@@ -303,7 +292,8 @@ replaced_some path part t whole e =
     go old there false test h = cc
 
 -- none exactly where the path leads to no subterm of the sort
-pub replaced_none : (path : List ℕ) (part t : ProfiledTerm) (o : Option Sorted) → option_map (λ w. profiled_in w) o ≡ replaced path part t
+pub replaced_none : (path : List ℕ) (part t : ProfiledTerm) (o : Option Sorted)
+    → option_map (λ w. profiled_in w) o ≡ with_part_replaced path part t
     → (o ≡ None) ↔ (¬ LeadsToSort path part t)
 replaced_none path part t None e = (
   (λ none leads.
@@ -317,7 +307,8 @@ replaced_none path part t (Some w) e = (
 )
 
 -- and the replacement of the definition without profiles where there is one
-pub replaced_plain : (path : List ℕ) (part t : ProfiledTerm) (o : Option Sorted) → option_map (λ w. profiled_in w) o ≡ replaced path part t
+pub replaced_plain : (path : List ℕ) (part t : ProfiledTerm) (o : Option Sorted)
+    → option_map (λ w. profiled_in w) o ≡ with_part_replaced path part t
     → IfSome o (λ w. put_at path (bare part) (bare t) ≡ Some (bare (profiled_in w)))
 replaced_plain path part t None e = tt
 replaced_plain path part t (Some w) e =

@@ -115,16 +115,6 @@ bound_either n t (pair ∷ pairs) m u (suc i, e) = go (bound_either n t pairs m 
 
 -- ---- Pairs and their substitution
 
--- a number without a pair stays
-pub absent_stays : (pairs : Pairs) (n s : ℕ) → IsAbsent n (numbers_of pairs) → profiled_binding pairs n s ≡ profiled_variable n s
-absent_stays [] n s absent = refl
-absent_stays (pair ∷ pairs) n s absent = go (nat_eq pair.0 n) refl (absent_stays pairs n s (λ i. absent (suc i)))
-  where
-    go : (b : Bool) → nat_eq pair.0 n ≡ b → profiled_binding pairs n s ≡ profiled_variable n s
-        → (if b then pair.1 else profiled_binding pairs n s) ≡ profiled_variable n s
-    go true e rest = absurd (absent 0 (ap (λ (k : ℕ). Some k) ((Decides-eqb pair.0 n).0 e)))
-    go false e rest = rest
-
 -- what is put for a variable is that of a pair, or the variable
 pub binding_either : (pairs : Pairs) (n s : ℕ)
     → ((u : ProfiledTerm) × IsPair pairs n u × (profiled_binding pairs n s ≡ u)) ⊎ (profiled_binding pairs n s ≡ profiled_variable n s)

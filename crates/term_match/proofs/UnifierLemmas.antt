@@ -371,15 +371,6 @@ failed_none_sorted left right pairs l r single is e unifier = go (asked_failed (
         ∙ unifier.keeps_sorts n s step.occurs
         )
 
--- nor where the heads have different sorts
-pub heads_none_sorted : (left right : ProfiledTerm) → (head_sort left ≡ head_sort right → ⊥) → HasSortedUnifier left right → ⊥
-heads_none_sorted left right differ unifier =
-    differ (
-    sym (instance_head unifier.values left (λ n s o. unifier.keeps_sorts n s (inl o)))
-    ∙ ap head_sort unifier.makes_one
-    ∙ instance_head unifier.values right (λ n s o. unifier.keeps_sorts n s (inr o))
-    )
-
 -- nor where two operations clash
 pub clash_none : (left right : ProfiledTerm) → clashes left right ≡ true → HasUnifier left right → ⊥
 clash_none left right e unifier = clashing_apart unifier.1.0 unifier.1.0 left right e unifier.1.1

@@ -36,8 +36,8 @@ where_sorts_agree part whole old = if nat_eq (head_sort old) (head_sort part) th
 
 -- The term with a part put at a path for a subterm of the same sort. It is nothing where the path leads to no subterm
 -- and where the sorts differ.
-abbrev pub replaced : List ℕ → ProfiledTerm → ProfiledTerm → Option ProfiledTerm
-replaced path part t = option_and_then (where_sorts_agree part (profiled_put_at path part t)) (profiled_subterm path t)
+abbrev pub with_part_replaced : List ℕ → ProfiledTerm → ProfiledTerm → Option ProfiledTerm
+with_part_replaced path part t = option_and_then (where_sorts_agree part (profiled_put_at path part t)) (profiled_subterm path t)
 
 -- The path leads to a subterm of the sort of the part.
 pub record LeadsToSort (path : List ℕ) (part t : ProfiledTerm) : Type 0 where

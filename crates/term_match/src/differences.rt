@@ -2,7 +2,7 @@
 
 ghost use Rattle.sort_terms.specs.TermView.{all_profiled, profiled_of};
 ghost use Rattle.std.specs.Prelude.{◌≡◌};
-ghost use Rattle.term_match.specs.Disagreement.{against, clash_among, clashes, disagreement, disagreements};
+ghost use Rattle.term_match.specs.Disagreement.{against, terms_clash, clashes, disagreement, disagreement_of_lists};
 ghost use Rattle.term_match.specs.DifferenceView.{disagreement_of};
 
 use crate::occurrence::occurs;
@@ -56,7 +56,7 @@ pub fn differ<'a>(left: &'a Term, right: &'a Term) -> Difference<'a>
 #[cycle(difference)]
 fn differ_among<'a>(terms: &'a Vec<Term>, others: &'a Vec<Term>) -> Difference<'a>
     ensures { disagreement_of result
-        ≡ disagreements (all_profiled terms.now.items) (all_profiled others.now.items) }
+        ≡ disagreement_of_lists (all_profiled terms.now.items) (all_profiled others.now.items) }
 {
     for i in 0..terms.len() {
         let Some(other) = others.get(i) else {
@@ -129,7 +129,7 @@ pub fn clash(left: &Term, right: &Term) -> bool
 // The same of the terms of two lists, which clash where their lengths differ, too.
 #[cycle(clash)]
 fn clash_in(terms: &Vec<Term>, others: &Vec<Term>) -> bool
-    ensures { result ≡ clash_among (all_profiled terms.now.items) (all_profiled others.now.items) }
+    ensures { result ≡ terms_clash (all_profiled terms.now.items) (all_profiled others.now.items) }
 {
     if terms.len() != others.len() {
         return true;

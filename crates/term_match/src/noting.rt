@@ -2,7 +2,7 @@
 
 ghost use Rattle.term_match.specs.Appearance.{noted};
 ghost use Rattle.rewriting_theory.specs.Numbering.{all_variable_numbers, variable_numbers};
-ghost use Rattle.sort_terms.specs.TermView.{term_of, terms_of};
+ghost use Rattle.sort_terms.specs.TermView.{term_of, bare_terms_of};
 ghost use Rattle.std.specs.Prelude.{◌≡◌, ◌∷◌, [], IfOk};
 ghost use Rattle.lotos_base.specs.Substitution.{is_listed};
 
@@ -25,7 +25,7 @@ pub fn note(term: &Term, seen: Vec<u64>) -> Result<Vec<u64>, NoMemory>
 #[cycle(noting)]
 fn note_all(terms: &Vec<Term>, mut seen: Vec<u64>) -> Result<Vec<u64>, NoMemory>
     ensures { IfOk result (λ more. more.items
-        ≡ noted seen.items (all_variable_numbers (terms_of terms.now.items))) }
+        ≡ noted seen.items (all_variable_numbers (bare_terms_of terms.now.items))) }
 {
     for term in terms {
         seen = note(term, seen)?;

@@ -23,7 +23,7 @@ ghost use Rattle.term_match.specs.ProfiledPath.{
   LeadsToSort,
   profiled_put_at,
   profiled_subterm,
-  replaced,
+  with_part_replaced,
   with_profiled_argument,
 };
 
@@ -48,7 +48,7 @@ pub fn subterm(term: &Sorted, path: &[u32]) -> Result<Option<Sorted>, NoMemory>
 /// to one of another sort than the part.
 pub fn put_at(term: &Sorted, path: &[u32], part: &Sorted) -> Result<Option<Sorted>, NoMemory>
     ensures profiles { IfOk result (λ o. option_map (λ t. profiled_in t) o
-        ≡ replaced path.now (profiled_in part.now) (profiled_in term.now)) }
+        ≡ with_part_replaced path.now (profiled_in part.now) (profiled_in term.now)) }
     ensures none { IfOk result (λ o. (o ≡ None)
         ↔ (¬ LeadsToSort path.now (profiled_in part.now) (profiled_in term.now))) }
     ensures plain { IfOk result (λ o. IfSome o (λ whole.
@@ -60,7 +60,7 @@ pub fn put_at(term: &Sorted, path: &[u32], part: &Sorted) -> Result<Option<Sorte
 // The same, by what it is with its profiles.
 fn replacement(term: &Sorted, path: &[u32], part: &Sorted) -> Result<Option<Sorted>, NoMemory>
     ensures { IfOk result (λ o. option_map (λ t. profiled_in t) o
-        ≡ replaced path.now (profiled_in part.now) (profiled_in term.now)) }
+        ≡ with_part_replaced path.now (profiled_in part.now) (profiled_in term.now)) }
 {
     let Some(old) = part_at(term.term(), path) else {
         return Ok(None);

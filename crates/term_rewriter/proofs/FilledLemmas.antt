@@ -1,52 +1,22 @@
 -- Terms with values put for their variables, from left to right.
 use Rattle.std.proofs.Common.{◌≡◌, ℕ, ◌+◌, List, [], ◌∷◌, ◌++◌, map, length, get_or, drop, take, ◌<◌, ap, sym, ◌∙◌, append_assoc, append-nil}
 use Rattle.std.proofs.lemmas.List.{map-append}
-use Rattle.lotos_base.specs.Signature.{Operation}
-use Rattle.lotos_base.proofs.Pieces.{same_heads, same_tails}
-use Rattle.sort_terms.specs.ProfiledTerm.{ProfiledTerm, ProfiledTerms, profiled_variable, profiled_node}
+use Rattle.sort_terms.specs.ProfiledTerm.{ProfiledTerm}
 use Rattle.sort_terms.specs.TermView.{profiled_of, all_profiled}
 use Rattle.sort_terms.specs.declared.terms.Term.{Term}
 use Rattle.term_match.specs.ProfiledInstance.{ProfiledSubstitution, profiled_binding, profiled_instance, profiled_instances}
 use Rattle.term_match.proofs.InstanceLemmas.{instances_more}
 use Rattle.term_rewriter.specs.Taken.{owned_pairs, AreTaken, IsRewritten}
-use Rattle.term_rewriter.specs.Wanted.{variables_of, all_variables_of, value_by, values_by, IsFilled, AreFilled}
-
--- ---- one term
-
-pub filled_variable : (t : ProfiledTerm) (n s : ℕ) (before after : List Term) (value : Term) → t ≡ profiled_variable n s
-    → before ≡ value ∷ after → IsFilled t (map profiled_of before) (map profiled_of after) (profiled_of value)
-filled_variable t n s before after value shape is values rest e =
-    let same : profiled_of value ∷ map profiled_of after ≡ values n s ∷ rest =
-    sym (ap (map profiled_of) is) ∙ e ∙ ap (λ (u : ProfiledTerm). values_by values (variables_of u) ++ rest) shape in
-    (same_heads _ _ _ _ same ∙ ap (profiled_instance values) (sym shape), same_tails _ _ _ _ same)
-
-pub filled_short : (t : ProfiledTerm) (n s : ℕ) (before : List Term) (after : List ProfiledTerm) (made : ProfiledTerm)
-    → t ≡ profiled_variable n s → before ≡ [] → IsFilled t (map profiled_of before) after made
-filled_short t n s before after made shape none values rest e =
-    let clash : [] ≡ values n s ∷ rest =
-    sym (ap (map profiled_of) none) ∙ e ∙ ap (λ (u : ProfiledTerm). values_by values (variables_of u) ++ rest) shape in cc
-
-pub filled_node : (t made : ProfiledTerm) (f : ℕ) (operation : Operation) (ts us : ProfiledTerms) (before after : List ProfiledTerm)
-    → t ≡ profiled_node f operation ts → made ≡ profiled_node f operation us → AreFilled ts before after us
-    → IsFilled t before after made
-filled_node t made f operation ts us before after shape made_is all values rest e =
-    let below = all values rest (e ∙ ap (λ (u : ProfiledTerm). values_by values (variables_of u) ++ rest) shape) in (
-      made_is ∙ ap (profiled_node f operation) below.0 ∙ ap (profiled_instance values) (sym shape),
-      below.1,
-    )
+use Rattle.term_rewriter.specs.Wanted.{profiled_variables_of, all_profiled_variables_of, value_by, values_by, IsFilled, AreFilled}
 
 -- ---- the terms one after the other
 
 -- The terms so far are made, and the values are left that the other ones want.
 abbrev pub AreFilledSoFar : List Term → List ProfiledTerm → List Term → List Term → List Term → List ProfiledTerm → Type 0
 AreFilledSoFar terms before done later made now = (values : ProfiledSubstitution) (rest : List ProfiledTerm)
-    → before ≡ values_by values (all_variables_of (all_profiled terms)) ++ rest
+    → before ≡ values_by values (all_profiled_variables_of (all_profiled terms)) ++ rest
     → (all_profiled made ≡ profiled_instances values (all_profiled done))
-    × (now ≡ values_by values (all_variables_of (all_profiled later)) ++ rest)
-
-pub none_filled : (terms made : List Term) (before : List ProfiledTerm) → made ≡ []
-    → AreFilledSoFar terms before (take 0 terms) (drop 0 terms) made before
-none_filled terms made before none values rest e = (ap all_profiled none, e)
+    × (now ≡ values_by values (all_profiled_variables_of (all_profiled later)) ++ rest)
 
 pub one_filled : (terms made new : List Term) (i : ℕ) (x y : Term) (before now more : List ProfiledTerm) → i < length terms
     → x ≡ get_or terms i x → drop i terms ≡ x ∷ drop (i + 1) terms → new ≡ made ++ y ∷ []
@@ -54,13 +24,13 @@ pub one_filled : (terms made new : List Term) (i : ℕ) (x y : Term) (before now
     → AreFilledSoFar terms before (take (i + 1) terms) (drop (i + 1) terms) new more
 one_filled terms made new i x y before now more within is later_is added so_far one values rest e =
     let done = so_far values rest e in
-    let after = values_by values (all_variables_of (all_profiled (drop (i + 1) terms))) in
-    let wanted : now ≡ values_by values (variables_of (profiled_of x)) ++ (after ++ rest) =
+    let after = values_by values (all_profiled_variables_of (all_profiled (drop (i + 1) terms))) in
+    let wanted : now ≡ values_by values (profiled_variables_of (profiled_of x)) ++ (after ++ rest) =
     done.1
-    ∙ ap (λ (ts : List Term). values_by values (all_variables_of (all_profiled ts)) ++ rest) later_is
+    ∙ ap (λ (ts : List Term). values_by values (all_profiled_variables_of (all_profiled ts)) ++ rest) later_is
     ∙ ap (λ (us : List ProfiledTerm). us ++ rest)
-    (map-append (value_by values) (variables_of (profiled_of x)) (all_variables_of (all_profiled (drop (i + 1) terms))))
-    ∙ append_assoc (values_by values (variables_of (profiled_of x))) after rest in
+    (map-append (value_by values) (profiled_variables_of (profiled_of x)) (all_profiled_variables_of (all_profiled (drop (i + 1) terms))))
+    ∙ append_assoc (values_by values (profiled_variables_of (profiled_of x))) after rest in
     let here = one values (after ++ rest) wanted in
     (instances_more values terms made new i x y within is added done.0 here.0, here.1)
 
@@ -69,13 +39,13 @@ pub all_filled : (terms made : List Term) (done later : List Term) (before now :
 all_filled terms made done later before now whole none so_far values rest e =
     let there = so_far values rest e in (
       there.0 ∙ ap (λ (ts : List Term). profiled_instances values (all_profiled ts)) whole,
-      there.1 ∙ ap (λ (ts : List Term). values_by values (all_variables_of (all_profiled ts)) ++ rest) none,
+      there.1 ∙ ap (λ (ts : List Term). values_by values (all_profiled_variables_of (all_profiled ts)) ++ rest) none,
     )
 
 -- ---- the whole
 
 pub is_rewritten : (left right t made : ProfiledTerm) (values : List (ℕ × Term)) (wanted : List (ℕ × ℕ)) (terms : List Term)
-    (after : List ProfiledTerm) → AreTaken left t [] (owned_pairs values) → wanted ≡ variables_of right
+    (after : List ProfiledTerm) → AreTaken left t [] (owned_pairs values) → wanted ≡ profiled_variables_of right
     → map profiled_of terms ≡ values_by (profiled_binding (owned_pairs values)) wanted
     → IsFilled right (map profiled_of terms) after made → IsRewritten left right t made
 is_rewritten left right t made values wanted terms after taken wanted_is terms_are filled found e =

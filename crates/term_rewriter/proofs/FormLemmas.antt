@@ -213,13 +213,6 @@ variable_done rules shape n s t shape_is reduced =
     normal_form rules t t
     (subst (λ (u : ProfiledTerm). IsReducedBelow (signature_in rules) (plain_rules_in rules) u t) shape_is reduced) refl
 
-pub variable_lacks : (rules : Rules) (shape : ProfiledTerm) (f n s : ℕ) (operation : Operation) (ts : ProfiledTerms) (t : ProfiledTerm)
-    → shape ≡ profiled_node f operation ts → t ≡ profiled_variable n s
-    → IsReducedBelow (signature_in rules) (plain_rules_in rules) shape t → ⊥
-variable_lacks rules shape f n s operation ts t shape_is t_is reduced =
-    subst (λ (u : ProfiledTerm). IsReducedBelow (signature_in rules) (plain_rules_in rules) (profiled_node f operation ts) u) t_is
-    (subst (λ (u : ProfiledTerm). IsReducedBelow (signature_in rules) (plain_rules_in rules) u t) shape_is reduced)
-
 mutual
   pub reduced_by : (signature : Signature) (rules : List PlainRule) (pairs : Pairs) (t : ProfiledTerm)
       → AreNormalFor signature rules t pairs → IsReducedBelow signature rules t (by_pairs pairs t)

@@ -10,7 +10,7 @@ use Rattle.lotos_base.specs.Term.{Term, variable, node, Terms, no_terms, term_th
 use Rattle.rewriting_theory.specs.Rule.{Rule, IsNode}
 use Rattle.rewriting_theory.specs.Matching.{Matches}
 use Rattle.path_order.specs.RuleHead.{has_head, headed_from, headed}
-use Rattle.term_rewriter.specs.FirstHead.{first_head, is_missing, is_number, is_open, has_first, begins_with, numbered_where}
+use Rattle.term_rewriter.specs.FirstHead.{first_head, is_missing, is_head_number, is_open, has_first, begins_with_heads, numbered_where}
 
 abbrev one_if : Bool → ℕ → List ℕ
 one_if b n = if b then n ∷ [] else []
@@ -107,7 +107,7 @@ where_rises test rules j k m n one two less = rises test zero rules j k m n one 
 
 -- ---- the rules with a head
 
-headed_where : (f first : ℕ) (rules : List Rule) → headed_from f first rules ≡ numbered_where (has_head f) first rules
+pub headed_where : (f first : ℕ) (rules : List Rule) → headed_from f first rules ≡ numbered_where (has_head f) first rules
 headed_where f first [] = refl
 headed_where f first (rule ∷ rules) =
     ap (λ (ns : List ℕ). one_if (has_head f rule.left) first ++ ns) (headed_where f (suc first) rules)
@@ -160,7 +160,7 @@ first_kept (term_then (node h vs) ts) (term_then (node k ws) us) values g same i
 
 -- a pattern that matches an operation begins with it, and its first argument with nothing or with what begins the first one there
 pub match_begins : (l : Term) (f : ℕ) (us : Terms) → IsNode l → Matches l (node f us)
-    → (is_open f l ≡ true) ⊎ ((g : ℕ) × (first_head us ≡ Some g) × (begins_with f g l ≡ true))
+    → (is_open f l ≡ true) ⊎ ((g : ℕ) × (first_head us ≡ Some g) × (begins_with_heads f g l ≡ true))
 match_begins (variable n s) f us is found = absurd is
 match_begins (node h ls) f us is found =
     let e = found.1 in
@@ -169,18 +169,18 @@ match_begins (node h ls) f us is found =
     go ((Decides-eqb h f).1 heads) tails (first_head ls) refl
   where
     go : nat_eq h f ≡ true → all_substituted found.0 ls ≡ us → (o : Option ℕ) → first_head ls ≡ o
-        → (is_open f (node h ls) ≡ true) ⊎ ((g : ℕ) × (first_head us ≡ Some g) × (begins_with f g (node h ls) ≡ true))
+        → (is_open f (node h ls) ≡ true) ⊎ ((g : ℕ) × (first_head us ≡ Some g) × (begins_with_heads f g (node h ls) ≡ true))
     go heads tails None none = inl (both_true heads (ap is_missing none))
     go heads tails (Some g) some = inr (
       g,
       first_kept ls us found.0 g tails some,
-      both_true heads (ap (is_number g) some ∙ (Decides-eqb g g).1 refl),
+      both_true heads (ap (is_head_number g) some ∙ (Decides-eqb g g).1 refl),
     )
 
-pub begins_headed : (f g : ℕ) (t : Term) → begins_with f g t ≡ true → has_head f t ≡ true
+pub begins_headed : (f g : ℕ) (t : Term) → begins_with_heads f g t ≡ true → has_head f t ≡ true
 begins_headed f g (variable n s) begins = begins
-begins_headed f g (node h ts) begins = first_so (nat_eq h f) (is_number g (first_head ts)) begins
+begins_headed f g (node h ts) begins = first_so (nat_eq h f) (is_head_number g (first_head ts)) begins
 
-pub begins_first : (f g : ℕ) (t : Term) → begins_with f g t ≡ true → has_first g t ≡ true
+pub begins_first : (f g : ℕ) (t : Term) → begins_with_heads f g t ≡ true → has_first g t ≡ true
 begins_first f g (variable n s) begins = begins
-begins_first f g (node h ts) begins = second_so (nat_eq h f) (is_number g (first_head ts)) begins
+begins_first f g (node h ts) begins = second_so (nat_eq h f) (is_head_number g (first_head ts)) begins

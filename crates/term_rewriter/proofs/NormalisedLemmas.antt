@@ -23,11 +23,6 @@ whole_reduced rules term shape copy same copied h =
     subst (λ (u : ProfiledTerm). IsReducedBelow (signature_in rules) (plain_rules_in rules) (profiled_of shape) u) (sym copied)
     (reduced_self rules (profiled_of shape) (subst (λ (t : Term). IsOf (signature_in rules) (profiled_of t)) (sym same) h))
 
-whole_is_of : (rules : Rules) (term : Sorted) (shape copy : Term) → shape ≡ term.term → profiled_of copy ≡ profiled_of shape
-    → IsOf (signature_in rules) (profiled_in term) → IsOf (signature_in rules) (profiled_of copy)
-whole_is_of rules term shape copy same copied h =
-    subst (λ (u : ProfiledTerm). IsOf (signature_in rules) u) (sym (copied ∙ ap profiled_of same)) h
-
 pub form_of_whole : (rules : Rules) (term : Sorted) (shape copy form : Term) → shape ≡ term.term → profiled_of copy ≡ profiled_of shape
     → IsFormOf (signature_in rules) (plain_rules_in rules) (profiled_of copy) (profiled_of form)
     → IsFormOf (signature_in rules) (plain_rules_in rules) (profiled_in term) (profiled_of form)

@@ -20,7 +20,7 @@ use Rattle.path_order.specs.RulesView.{plain_rules_in, signature_in}
 use Rattle.path_order.specs.declared.rule.Rule.{Rule}
 use Rattle.path_order.specs.declared.rules.Rules.{Rules}
 use Rattle.path_order.proofs.RulesLemmas.{rules_well_formed, rules_end, rules_have_forms}
-use Rattle.term_rewriter.specs.Begun.{IsReadyForRoot, LeadsTo, IsBegunOf, form_size, left_of}
+use Rattle.term_rewriter.specs.Begun.{IsReadyForRoot, LeadsTo, IsBegunOf, form_size}
 use Rattle.term_rewriter.specs.FirstMatch.{NoneMatches, IsFirstMatch, IsFirstRule}
 use Rattle.term_rewriter.specs.Form.{IsNormalOf, by_pairs, IsFormOf}
 use Rattle.term_rewriter.specs.Reduced.{IsReducedBelow}
@@ -152,24 +152,3 @@ begun_under rules t whole (Whole next) less onward is = record {
   smaller = let small = is.smaller in omega (arith, small, less);
   form = λ made h. onward made (is.form made h);
 }
-
--- ---- one after the other
-
-pub whole_begun : (rules : Rules) (t : ProfiledTerm) (bound : ℕ) (begun : Progress) (whole : Term) → begun ≡ Whole whole
-    → IsBegunOf rules t bound begun → LeadsTo rules t bound (profiled_of whole)
-whole_begun rules t bound begun whole is h = subst (λ (next : Progress). IsBegunOf rules t bound next) is h
-
-pub begun_then : (rules : Rules) (t whole : ProfiledTerm) (bound : ℕ) (next : Progress) → LeadsTo rules t bound whole
-    → IsBegunOf rules whole (form_size rules whole) next → IsBegunOf rules t bound next
-begun_then rules t whole bound (Form made) leads is = leads.form (profiled_of made) is
-begun_then rules t whole bound (Whole next) leads is = record {
-  ready = is.ready;
-  smaller = let small = is.smaller in let less = leads.smaller in omega (arith, small, less);
-  form = λ made h. leads.form made (is.form made h);
-}
-
-pub left_falls : (rules : Rules) (whole : Term) (next : Progress)
-    → IsBegunOf rules (profiled_of whole) (form_size rules (profiled_of whole)) next
-    → left_of rules next < form_size rules (profiled_of whole) + 1
-left_falls rules whole (Form made) is = omega arith
-left_falls rules whole (Whole next) is = let small = is.smaller in omega (arith, small)

@@ -1,31 +1,20 @@
 -- What is wanted, what the pairs have for it, and what they keep.
-use Rattle.std.proofs.Common.{◌≡◌, ℕ, zero, suc, ◌+◌, ◌<◌, List, [], ◌∷◌, ◌++◌, length, get_or, drop, take, map, Bool, true, false, nat_eq, refl, ap, sym, ◌∙◌, inl, inr, arith, append_assoc, append-nil}
+use Rattle.std.proofs.Common.{◌≡◌, ℕ, zero, suc, ◌+◌, ◌<◌, List, [], ◌∷◌, ◌++◌, length, get_or, drop, take, map, Bool, true, false, nat_eq, refl, ap, sym, ◌∙◌, inl, inr, arith, append_assoc}
 use Rattle.std.specs.Prelude.{◌⊎◌, Option, Some, None, slice_get, if◌then◌else◌, IsTrue}
 use Rattle.std.proofs.lemmas.List.{map-append}
 use Rattle.std.proofs.lemmas.Option.{same_Some}
 use Rattle.std.proofs.lemmas.Bool.Decides.{Decides-eqb}
 use Rattle.sort_terms.specs.ProfiledTerm.{ProfiledTerm, profiled_variable}
-use Rattle.sort_terms.specs.TermView.{profiled_of, all_profiled}
+use Rattle.sort_terms.specs.TermView.{profiled_of}
 use Rattle.sort_terms.specs.declared.terms.Term.{Term}
 use Rattle.term_match.specs.ProfiledInstance.{profiled_binding}
 use Rattle.term_match.specs.Search.{looked_up}
 use Rattle.term_rewriter.specs.Taken.{owned_pair, owned_pairs}
-use Rattle.term_rewriter.specs.Wanted.{variables_of, all_variables_of, values_by, is_wanted_in, IsPlaceOf, IsGiven}
+use Rattle.term_rewriter.specs.Wanted.{values_by, is_wanted_in, IsPlaceOf, IsGiven}
 use Rattle.term_rewriter.proofs.ValueLemmas.{bound_value, unbound_value}
 
 abbrev Pairs : Type 0
 Pairs = List (ℕ × ProfiledTerm)
-
--- ---- the variables one after the other
-
-pub variables_more : (all : List (ℕ × ℕ)) (later after : List Term) (x : Term) (seen new : List (ℕ × ℕ)) → later ≡ x ∷ after
-    → all ≡ seen ++ all_variables_of (all_profiled later) → new ≡ seen ++ variables_of (profiled_of x)
-    → all ≡ new ++ all_variables_of (all_profiled after)
-variables_more all later after x seen new later_is so_far added =
-    so_far
-    ∙ ap (λ (ts : List Term). seen ++ all_variables_of (all_profiled ts)) later_is
-    ∙ sym (append_assoc seen (variables_of (profiled_of x)) (all_variables_of (all_profiled after)))
-    ∙ ap (λ (vs : List (ℕ × ℕ)). vs ++ all_variables_of (all_profiled after)) (sym added)
 
 -- ---- the place of a pair
 
@@ -124,13 +113,6 @@ pub record AreSupplied (wanted : List (ℕ × ℕ)) (before : List (ℕ × Profi
   pub values : values_by (profiled_binding before) wanted ≡ made ++ values_by (profiled_binding before) later
   pub kept : (m : ℕ) → is_wanted_in later m ≡ true → looked_up m now ≡ looked_up m before
 
-pub none_supplied : (wanted : List (ℕ × ℕ)) (before : Pairs) (made : List Term) → made ≡ []
-    → AreSupplied wanted before (drop 0 wanted) (map profiled_of made) before
-none_supplied wanted before made none = record {
-  values = ap (λ (ts : List Term). map profiled_of ts ++ values_by (profiled_binding before) wanted) (sym none);
-  kept = λ m h. refl;
-}
-
 same_binding : (now before : Pairs) (n s : ℕ) → looked_up n now ≡ looked_up n before
     → profiled_binding now n s ≡ profiled_binding before n s
 same_binding now before n s same = go (looked_up n now) refl
@@ -174,9 +156,3 @@ one_supplied wanted before later after n s again made new now more value later_i
         go : (b : Bool) → nat_eq m n ≡ b → IsTrue again ⊎ ¬ (m ≡ n)
         go true test = inl (again_is ∙ ap (λ (k : ℕ). is_wanted_in after k) (sym ((Decides-eqb m n).0 test)) ∙ h)
         go false test = inr (λ same. let clash : true ≡ false = sym ((Decides-eqb m n).1 same) ∙ test in cc)
-
-pub all_supplied : (wanted : List (ℕ × ℕ)) (before : Pairs) (later : List (ℕ × ℕ)) (made : List Term) (now : Pairs) → later ≡ []
-    → AreSupplied wanted before later (map profiled_of made) now → map profiled_of made ≡ values_by (profiled_binding before) wanted
-all_supplied wanted before later made now none so_far =
-    sym (so_far.values ∙ ap (λ (vs : List (ℕ × ℕ)). map profiled_of made ++ values_by (profiled_binding before) vs) none
-    ∙ append-nil (map profiled_of made))

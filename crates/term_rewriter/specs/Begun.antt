@@ -37,6 +37,6 @@ IsBegunOf rules t bound (Form made) = IsFormOf (signature_in rules) (plain_rules
 IsBegunOf rules t bound (Whole whole) = LeadsTo rules t bound (profiled_of whole)
 
 -- how much is left to be done
-abbrev pub left_of : Rules → Progress → ℕ
-left_of rules (Form made) = 0
-left_of rules (Whole whole) = form_size rules (profiled_of whole) + 1
+abbrev pub left_to_do : Rules → Progress → ℕ
+left_to_do rules (Form made) = 0
+left_to_do rules (Whole whole) = form_size rules (profiled_of whole) + 1

@@ -15,9 +15,9 @@ is_missing None = true
 is_missing (Some k) = false
 
 -- it is this one
-abbrev pub is_number : ℕ → Option ℕ → Bool
-is_number g None = false
-is_number g (Some k) = nat_eq k g
+abbrev pub is_head_number : ℕ → Option ℕ → Bool
+is_head_number g None = false
+is_head_number g (Some k) = nat_eq k g
 
 -- the operation is at the head of the term, and none at the head of the first argument
 abbrev pub is_open : ℕ → Term → Bool
@@ -27,12 +27,12 @@ is_open f (node g ts) = nat_eq g f && is_missing (first_head ts)
 -- the operation is at the head of the first argument
 abbrev pub has_first : ℕ → Term → Bool
 has_first f (variable n s) = false
-has_first f (node g ts) = is_number f (first_head ts)
+has_first f (node g ts) = is_head_number f (first_head ts)
 
 -- the operation is at the head of the term, and the other one at the head of the first argument
-abbrev pub begins_with : ℕ → ℕ → Term → Bool
-begins_with f g (variable n s) = false
-begins_with f g (node h ts) = nat_eq h f && is_number g (first_head ts)
+abbrev pub begins_with_heads : ℕ → ℕ → Term → Bool
+begins_with_heads f g (variable n s) = false
+begins_with_heads f g (node h ts) = nat_eq h f && is_head_number g (first_head ts)
 
 -- the numbers, counted from one on, of the rules whose left sides pass the test
 abbrev pub numbered_where : (Term → Bool) → ℕ → List Rule → List ℕ
@@ -42,7 +42,7 @@ numbered_where test first (rule ∷ rules) = (if test rule.left then first ∷ [
 -- the first argument of the one may be that of the other: they do not begin with different operations
 abbrev pub may_meet : Option ℕ → Option ℕ → Bool
 may_meet None other = true
-may_meet (Some g) other = is_missing other || is_number g other
+may_meet (Some g) other = is_missing other || is_head_number g other
 
 -- a term with the operation and the first argument at its head may have an instance in common with this one
 abbrev pub may_overlap : ℕ → Option ℕ → Term → Bool

@@ -6,14 +6,14 @@ use Rattle.term_match.specs.Search.{looked_up}
 
 abbrev mutual
   -- The variables of the term, from left to right, each as often as it stands there.
-  pub variables_of : ProfiledTerm → List (ℕ × ℕ)
-  variables_of (profiled_variable n s) = (n, s) ∷ []
-  variables_of (profiled_node f operation ts) = all_variables_of ts
+  pub profiled_variables_of : ProfiledTerm → List (ℕ × ℕ)
+  profiled_variables_of (profiled_variable n s) = (n, s) ∷ []
+  profiled_variables_of (profiled_node f operation ts) = all_profiled_variables_of ts
 
   -- Those of the terms of a list.
-  pub all_variables_of : ProfiledTerms → List (ℕ × ℕ)
-  all_variables_of no_profiled_terms = []
-  all_variables_of (profiled_term_then t ts) = variables_of t ++ all_variables_of ts
+  pub all_profiled_variables_of : ProfiledTerms → List (ℕ × ℕ)
+  all_profiled_variables_of no_profiled_terms = []
+  all_profiled_variables_of (profiled_term_then t ts) = profiled_variables_of t ++ all_profiled_variables_of ts
 
 -- what a variable has
 abbrev pub value_by : ProfiledSubstitution → ℕ × ℕ → ProfiledTerm
@@ -44,9 +44,9 @@ pub record IsGiven (n s : ℕ) (again : Bool) (before after : List (ℕ × Profi
 -- the rest.
 abbrev pub IsFilled : ProfiledTerm → List ProfiledTerm → List ProfiledTerm → ProfiledTerm → Type 0
 IsFilled t before after made = (values : ProfiledSubstitution) (rest : List ProfiledTerm)
-    → before ≡ values_by values (variables_of t) ++ rest → (made ≡ profiled_instance values t) × (after ≡ rest)
+    → before ≡ values_by values (profiled_variables_of t) ++ rest → (made ≡ profiled_instance values t) × (after ≡ rest)
 
 -- The same for the terms of a list.
 abbrev pub AreFilled : ProfiledTerms → List ProfiledTerm → List ProfiledTerm → ProfiledTerms → Type 0
 AreFilled ts before after made = (values : ProfiledSubstitution) (rest : List ProfiledTerm)
-    → before ≡ values_by values (all_variables_of ts) ++ rest → (made ≡ profiled_instances values ts) × (after ≡ rest)
+    → before ≡ values_by values (all_profiled_variables_of ts) ++ rest → (made ≡ profiled_instances values ts) × (after ≡ rest)

@@ -3,7 +3,7 @@
 ghost use Rattle.term_rewriter.specs.FirstHead.{first_head, has_first, is_open};
 ghost use Rattle.term_rewriter.specs.FirstIndexView.{IsIndexOf, IsKeyBelow, HasRoom};
 ghost use Rattle.path_order.specs.HeadIndexView.{numbers_at};
-ghost use Rattle.sort_terms.specs.TermView.{term_of, terms_of};
+ghost use Rattle.sort_terms.specs.TermView.{term_of, bare_terms_of};
 ghost use Rattle.std.specs.Prelude.{◌≡◌, ◌∷◌, ◌++◌, [], ℕ, IfOk, OnOk, if◌then◌else◌};
 
 use lotos_base::NoMemory;
@@ -57,7 +57,7 @@ fn add(index: &mut FirstIndex, term: &Term, number: usize) -> Result<(), NoMemor
 
 /// The operation at the head of the first of the terms, if one is there.
 pub fn first_operation(terms: &Vec<Term>) -> Option<u32>
-    ensures { result ≡ first_head (terms_of terms.now.items) }
+    ensures { result ≡ first_head (bare_terms_of terms.now.items) }
 {
     match terms.get(0) {
         None => None,

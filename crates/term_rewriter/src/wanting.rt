@@ -10,10 +10,10 @@ ghost use Rattle.term_rewriter.specs.Taken.{owned_pairs};
 ghost use Rattle.term_rewriter.specs.Wanted.{
   IsGiven,
   IsPlaceOf,
-  all_variables_of,
+  all_profiled_variables_of,
   is_wanted_in,
   values_by,
-  variables_of,
+  profiled_variables_of,
 };
 
 use lotos_base::NoMemory;
@@ -25,7 +25,7 @@ use std::alloc::Global;
 #[cycle(variables)]
 pub fn variables(term: &Term, seen: Vec<(u64, u32)>) -> Result<Vec<(u64, u32)>, NoMemory>
     ensures { IfOk result
-        (λ more. more.items ≡ seen.items ++ variables_of (profiled_of term.now)) }
+        (λ more. more.items ≡ seen.items ++ profiled_variables_of (profiled_of term.now)) }
 {
     match term {
         Term::Var { number, sort } => one_more(*number, *sort, seen),
@@ -37,7 +37,8 @@ pub fn variables(term: &Term, seen: Vec<(u64, u32)>) -> Result<Vec<(u64, u32)>, 
 #[cycle(variables)]
 fn all_variables(terms: &Vec<Term>, mut seen: Vec<(u64, u32)>) -> Result<Vec<(u64, u32)>, NoMemory>
     ensures { IfOk result
-        (λ more. more.items ≡ seen.items ++ all_variables_of (all_profiled terms.now.items)) }
+        (λ more. more.items ≡ seen.items
+        ++ all_profiled_variables_of (all_profiled terms.now.items)) }
 {
     for term in terms {
         seen = variables(term, seen)?;
@@ -48,7 +49,7 @@ fn all_variables(terms: &Vec<Term>, mut seen: Vec<(u64, u32)>) -> Result<Vec<(u6
 // The variable after those seen before.
 fn one_more(number: u64, sort: u32, mut seen: Vec<(u64, u32)>) -> Result<Vec<(u64, u32)>, NoMemory>
     ensures { IfOk result
-        (λ more. more.items ≡ seen.items ++ variables_of (profiled_variable number sort)) }
+        (λ more. more.items ≡ seen.items ++ profiled_variables_of (profiled_variable number sort)) }
 {
     seen.push((number, sort))?;
     Ok(seen)

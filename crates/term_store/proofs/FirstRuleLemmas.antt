@@ -235,10 +235,6 @@ first_of_two rules keys n f us opens begun (Some one) (Some other) shape all oth
 
 -- ---- The first of some terms
 
-pub first_missing : (terms : List ProfiledTerm) (ns : List ℕ) → length ns ≡ 0 → None ≡ first_head (all_bare (members terms ns))
-first_missing terms [] none = refl
-first_missing terms (n ∷ ns) none = absurd (omega (arith, none))
-
 pub first_variable : (signature : Signature) (keys : List (List ℕ)) (ns : List ℕ) → HaveTermsOf signature keys
     → AreBelow (length keys) ns → 0 < length ns → None ≡ operation_in (get_or keys (get_or ns 0 0) [])
     → None ≡ first_head (all_bare (members (key_terms signature keys) ns))

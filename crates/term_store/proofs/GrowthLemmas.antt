@@ -6,7 +6,7 @@ use Rattle.std.proofs.lemmas.Option.{same_Some}
 use Rattle.std.proofs.Math.Seq.{get_or-append_seam}
 use Rattle.lotos_base.specs.Signature.{Signature, Operation, IsOperation}
 use Rattle.sort_terms.specs.ProfiledTerm.{ProfiledTerm, IsOf}
-use Rattle.term_store.specs.Cells.{nothing, operation_at, key_term, key_terms, IsCell, AreCells, IsOnceEach, HasOneMore, HaveTermsOf, Grows}
+use Rattle.term_store.specs.Cells.{no_such_term, operation_at, key_term, key_terms, IsCell, AreCells, IsOnceEach, HasOneMore, HaveTermsOf, Grows}
 use Rattle.term_store.proofs.CellLemmas.{with_last, with_length, cells_last, cell_stays, first_term_of_key, grown_stays, grown_keys}
 
 pub get_or_of : {A : Type 0} (xs : List A) (n : ℕ) (x d : A) → slice_get xs n ≡ Some x → get_or xs n d ≡ x
@@ -57,22 +57,23 @@ terms_more signature before key after (inr more) cell of have =
     terms : List ProfiledTerm
     terms = key_terms signature before
 
-    go : (n : ℕ) → (n < length before) ⊎ (n ≡ length before) → IsOf signature (get_or (key_terms signature (before ++ key ∷ [])) n nothing)
+    go : (n : ℕ) → (n < length before) ⊎ (n ≡ length before)
+        → IsOf signature (get_or (key_terms signature (before ++ key ∷ [])) n no_such_term)
     go n (inl low) =
         subst (λ (t : ProfiledTerm). IsOf signature t) (sym (grown_stays signature before (before ++ key ∷ []) n (key ∷ [], refl) low))
         (have.of n low)
     go n (inr end) =
         let many : length terms ≡ length before = (let all = with_length signature [] before in omega (arith, all)) in
-        let place : get_or (key_terms signature (before ++ key ∷ [])) n nothing ≡ key_term signature terms key =
-        ap (λ (ts : List ProfiledTerm). get_or ts n nothing) (with_last signature [] before key)
-        ∙ ap (λ (k : ℕ). get_or (terms ++ key_term signature terms key ∷ []) k nothing) (end ∙ sym many)
-        ∙ get_or-append_seam terms (key_term signature terms key) [] nothing in
+        let place : get_or (key_terms signature (before ++ key ∷ [])) n no_such_term ≡ key_term signature terms key =
+        ap (λ (ts : List ProfiledTerm). get_or ts n no_such_term) (with_last signature [] before key)
+        ∙ ap (λ (k : ℕ). get_or (terms ++ key_term signature terms key ∷ []) k no_such_term) (end ∙ sym many)
+        ∙ get_or-append_seam terms (key_term signature terms key) [] no_such_term in
         subst (λ (t : ProfiledTerm). IsOf signature t) (sym place) of
 
 -- the term of the key that stands at a number
 pub number_term : (signature : Signature) (before : List (List ℕ)) (key : List ℕ) (after : List (List ℕ)) (n : ℕ) → Grows before after
     → IsCell (length before) key → AreCells 0 after → n < length after → get_or after n [] ≡ key
-    → get_or (key_terms signature after) n nothing ≡ key_term signature (key_terms signature before) key
+    → get_or (key_terms signature after) n no_such_term ≡ key_term signature (key_terms signature before) key
 number_term signature before key after n grows cell cells inside is =
     let many : length before ≡ length (key_terms signature before) = (let all = with_length signature [] before in omega (arith, all)) in
     first_term_of_key signature after n cells inside ∙ ap (λ (k : List ℕ). key_term signature (key_terms signature after) k) is

@@ -1,5 +1,5 @@
 -- What is kept stays right as terms come and forms are kept.
-use Rattle.std.proofs.Common.{arith, refl, ap, sym, ◌∙◌, ◌≡◌, ◌<◌, ◌⊎◌, inl, inr, subst, ℕ, zero, suc, List, [], ◌∷◌, ◌++◌, length, Option, None, Some}
+use Rattle.std.proofs.Common.{arith, refl, ap, sym, ◌∙◌, ◌≡◌, ◌<◌, ◌⊎◌, inl, inr, subst, ℕ, List, length, Option, None, Some}
 use Rattle.sort_terms.specs.ProfiledTerm.{ProfiledTerm, bare}
 use Rattle.path_order.specs.RulesView.{signature_in}
 use Rattle.path_order.specs.declared.rules.Rules.{Rules}
@@ -11,13 +11,6 @@ use Rattle.term_store.specs.Kept.{kept_at, HasKeptForm, chosen_form, KeepsAtMost
 use Rattle.term_store.specs.Numbered.{term_at}
 use Rattle.term_store.proofs.CellLemmas.{grown_stays}
 use Rattle.term_store.proofs.NumberingLemmas.{grows_length}
-
--- one place more, with nothing in it
-pub nothing_more : (kept : List (Option ℕ)) (n : ℕ) → kept_at (kept ++ None ∷ []) n ≡ kept_at kept n
-nothing_more [] zero = refl
-nothing_more [] (suc n) = refl
-nothing_more (o ∷ kept) zero = refl
-nothing_more (o ∷ kept) (suc n) = nothing_more kept n
 
 pub sound_grows : (rules : Rules) (before after : List (List ℕ)) (kept : List (Option ℕ)) → Grows before after
     → HaveTermsOf (signature_in rules) after → IsSoundStore rules before kept → IsSoundStore rules after kept

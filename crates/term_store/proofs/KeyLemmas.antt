@@ -80,12 +80,6 @@ found_key (first ∷ keys) key n found =
 
 -- ---- The head of a term
 
-pub short_key : (bound : ℕ) (key : List ℕ) → IsCell bound key → length key < 2 → None ≡ operation_in key
-short_key bound [] cell short = refl
-short_key bound (zero ∷ ns) cell short = refl
-short_key bound (suc m ∷ []) cell short = refl
-short_key bound (suc m ∷ f ∷ ns) cell short = absurd (omega (arith, short))
-
 pub other_sign : (bound : ℕ) (key : List ℕ) → IsCell bound key → ¬ (get_or key 0 0 ≡ 1) → None ≡ operation_in key
 other_sign bound [] cell other = refl
 other_sign bound (zero ∷ ns) cell other = refl

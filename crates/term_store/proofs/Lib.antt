@@ -18,3 +18,4 @@ pub mod StoreLemmas
 pub mod TurnLemmas
 pub mod ValueLemmas
 pub mod WholeLemmas
+pub mod HandedOn

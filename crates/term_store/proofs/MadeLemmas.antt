@@ -2,7 +2,7 @@
 use Rattle.std.proofs.Common.{Vec, Global, Some, arith, refl, ap, sym, ◌∙◌, ◌≡◌, ◌<◌, ℕ, zero, suc, ◌+◌, ◌*◌, List, [], ◌∷◌, ◌++◌, length, map, get_or, take, drop, subst}
 use Rattle.std.specs.declared.rc.Rc.{Rc}
 use Rattle.lotos_base.specs.Signature.{Signature}
-use Rattle.sort_terms.specs.ProfiledTerm.{ProfiledTerm, profiled_variable, profiled_node}
+use Rattle.sort_terms.specs.ProfiledTerm.{ProfiledTerm, profiled_node}
 use Rattle.sort_terms.specs.Operations.{operation_of}
 use Rattle.sort_terms.specs.TermSize.{profiled_size, profiled_sizes}
 use Rattle.sort_terms.specs.TermView.{profiled_of, all_profiled, profiled_terms}
@@ -10,10 +10,11 @@ use Rattle.sort_terms.specs.declared.operations.Op.{Op}
 use Rattle.sort_terms.specs.declared.terms.Term.{Term as CodeTerm}
 use Rattle.sort_terms.specs.MadeTerms.{made_of}
 use Rattle.sort_terms.proofs.CopyLemmas.{made_more}
+use Rattle.sort_terms.proofs.SizeLemmas.{some_profiled_size}
 use Rattle.path_order.specs.RulesView.{signature_in}
 use Rattle.path_order.specs.declared.rules.Rules.{Rules}
 use Rattle.term_store.specs.Cells.{operation_in, operation_at, members, key_terms, AreBelow, HaveTermsOf}
-use Rattle.term_store.specs.Made.{AreMadeOf, all_made, number_in, turns, turns_of, with_made, with_operation}
+use Rattle.term_store.specs.Made.{AreMadeOf, all_made, number_of_making, making_turns, making_turns_of, with_made, with_made_operation}
 use Rattle.term_store.specs.Numbered.{term_at}
 use Rattle.term_store.specs.declared.reading.Making.{Making}
 use Rattle.term_store.specs.declared.reading.Making.TheVariants.{Term, Operation}
@@ -43,17 +44,17 @@ terms_made s keys [] made = refl
 terms_made s keys (n ∷ ns) made = ap (λ ts. term_at s keys n ∷ ts) (terms_made s keys ns made)
 
 turns_append : (s : Signature) (keys : List (List ℕ)) (left more : List Making)
-    → turns_of s keys (left ++ more) ≡ turns_of s keys left + turns_of s keys more
+    → making_turns_of s keys (left ++ more) ≡ making_turns_of s keys left + making_turns_of s keys more
 turns_append s keys [] more = omega arith
 turns_append s keys (first ∷ left) more = let e = turns_append s keys left more in omega arith
 
 pub turns_next : (s : Signature) (keys : List (List ℕ)) (all left : List Making) (next : Making) → all ≡ left ++ next ∷ []
-    → turns_of s keys all ≡ turns s keys next + turns_of s keys left
+    → making_turns_of s keys all ≡ making_turns s keys next + making_turns_of s keys left
 turns_next s keys all left next is =
-    let e = ap (turns_of s keys) is ∙ turns_append s keys left (next ∷ []) in omega arith
+    let e = ap (making_turns_of s keys) is ∙ turns_append s keys left (next ∷ []) in omega arith
 
 turns_of_terms : (s : Signature) (keys : List (List ℕ)) (ns : List ℕ)
-    → turns_of s keys (map Term ns) ≡ 2 * profiled_sizes (members (key_terms s keys) ns)
+    → making_turns_of s keys (map Term ns) ≡ 2 * profiled_sizes (members (key_terms s keys) ns)
 turns_of_terms s keys [] = refl
 turns_of_terms s keys (n ∷ ns) = let e = turns_of_terms s keys ns in omega arith
 
@@ -63,10 +64,10 @@ made_append keys (first ∷ left) more one other = (one.0, made_append keys left
 
 -- what comes next has the number of a term, and so have those before
 pub made_next : (keys : List (List ℕ)) (all left : List Making) (next : Making) → all ≡ left ++ next ∷ [] → AreMadeOf keys all
-    → (number_in next < length keys) × AreMadeOf keys left
+    → (number_of_making next < length keys) × AreMadeOf keys left
 made_next keys all left next is within = go left (subst (λ (list : List Making). AreMadeOf keys list) is within)
   where
-    go : (list : List Making) → AreMadeOf keys (list ++ next ∷ []) → (number_in next < length keys) × AreMadeOf keys list
+    go : (list : List Making) → AreMadeOf keys (list ++ next ∷ []) → (number_of_making next < length keys) × AreMadeOf keys list
     go [] inside = (inside.0, tt)
     go (first ∷ list) inside = let rest = go list inside.1 in (rest.0, (inside.0, rest.1))
 
@@ -95,7 +96,7 @@ operation_begun rules keys n f ns old one more made have inside some is grown =
     ap (λ list. all_made s keys list made) grown ∙ all_made_append s keys one (map Term ns) made
     ∙ ap (all_made s keys one) (terms_made s keys ns made)
     ∙ all_made_next s keys one old (Operation n) (map g ns ++ made) is
-    ∙ ap (λ o. all_made s keys old (with_operation s o (map g ns ++ made))) (sym some)
+    ∙ ap (λ o. all_made s keys old (with_made_operation s o (map g ns ++ made))) (sym some)
     ∙ ap (λ ts. all_made s keys old (profiled_node f (operation_at s f) (profiled_terms ts) ∷ drop (length ns) (map g ns ++ made)))
     (front g ns made)
     ∙ ap (λ ts. all_made s keys old (profiled_node f (operation_at s f) (profiled_terms (map g ns)) ∷ ts)) (behind g ns made)
@@ -109,22 +110,19 @@ operation_within keys n ns old one more inside below is grown within =
     (made_append keys (old ++ Operation n ∷ []) (map Term ns) (made_append keys old (Operation n ∷ []) within (inside, tt))
     (terms_within keys ns below))
 
-size_some : (t : ProfiledTerm) → 0 < profiled_size t
-size_some (profiled_variable n s) = omega arith
-size_some (profiled_node f o ts) = omega arith
-
 pub variable_less : (s : Signature) (keys : List (List ℕ)) (n : ℕ) (old : List Making)
-    → turns_of s keys old < turns s keys (Term n) + turns_of s keys old
-variable_less s keys n old = let some = size_some (term_at s keys n) in omega (arith, some)
+    → making_turns_of s keys old < making_turns s keys (Term n) + making_turns_of s keys old
+variable_less s keys n old = let some = some_profiled_size (term_at s keys n) in omega (arith, some)
 
 pub operation_less : (rules : Rules) (keys : List (List ℕ)) (n f : ℕ) (ns : List ℕ) (old one more : List Making)
     → HaveTermsOf (signature_in rules) keys → n < length keys → Some (f, ns) ≡ operation_in (get_or keys n [])
     → one ≡ old ++ Operation n ∷ [] → more ≡ one ++ map Term ns
-    → turns_of (signature_in rules) keys more < turns (signature_in rules) keys (Term n) + turns_of (signature_in rules) keys old
+    → making_turns_of (signature_in rules) keys more < making_turns (signature_in rules) keys (Term n)
+    + making_turns_of (signature_in rules) keys old
 operation_less rules keys n f ns old one more have inside some is grown =
     let s = signature_in rules in
     let first = turns_next s keys one old (Operation n) is in
-    let rest = ap (turns_of s keys) grown ∙ turns_append s keys one (map Term ns) in
+    let rest = ap (making_turns_of s keys) grown ∙ turns_append s keys one (map Term ns) in
     let arguments = turns_of_terms s keys ns in
     let whole : profiled_size (term_at s keys n) ≡ suc (profiled_sizes (members (key_terms s keys) ns))
     = ap profiled_size (operation_term s keys n f ns have inside some) in
@@ -150,8 +148,8 @@ operation_made rules keys n f ns profiles p profile arguments whole old rest new
     ∙ ap (λ ts. profiled_node f (operation_at s f) (profiled_terms (take (length ns) (map profiled_of arguments.items ++ made_of rest)))
     ∷ ts)
     (sym (left_over arguments.items (length ns) many))
-    ∙ ap (with_operation s (Some (f, ns))) (sym was)
-    ∙ ap (λ o. with_operation s o (made_of old)) some)
+    ∙ ap (with_made_operation s (Some (f, ns))) (sym was)
+    ∙ ap (λ o. with_made_operation s o (made_of old)) some)
   where
     taken : (ts : List CodeTerm) (count : ℕ) → length ts ≡ count → take count (map profiled_of ts ++ made_of rest) ≡ map profiled_of ts
     taken [] zero many = refl

@@ -1,20 +1,20 @@
 -- Numbers of instances of terms, from those of their parts.
-use Rattle.std.proofs.Common.{arith, refl, ap, sym, ◌∙◌, ◌≡◌, ◌≤◌, ◌+◌, subst, ℕ, List, [], ◌∷◌, ◌++◌, length, drop, take, append_assoc, append-nil, Option, None, Some}
+use Rattle.std.proofs.Common.{arith, refl, ap, sym, ◌∙◌, ◌≡◌, ◌≤◌, ◌+◌, subst, ℕ, List, [], ◌∷◌, ◌++◌, length, drop, append_assoc, append-nil, Option, None, Some}
 use Rattle.std.specs.Prelude.{Result, IfOk}
 use Rattle.std.specs.Option.{option_map}
-use Rattle.std.proofs.Math.Seq.{drop-append_seam, take-append_seam}
+use Rattle.std.proofs.Math.Seq.{drop-append_seam}
 use Rattle.std.proofs.lemmas.List.{length-append}
 use Rattle.std.proofs.lemmas.Result.{IfOk-weaker}
 use Rattle.lotos_base.specs.Signature.{Signature, Operation, IsOperation}
 use Rattle.sort_terms.specs.ProfiledTerm.{ProfiledTerm, ProfiledTerms, profiled_variable, profiled_node, no_profiled_terms, profiled_term_then, IsOf, AreOf}
-use Rattle.term_store.specs.Cells.{variable_key, operation_key, members, key_term, key_terms, AreBelow, IsCell, HasOneMore, KeyStandsAt, HaveTermsOf, Grows}
+use Rattle.term_store.specs.Cells.{variable_key, numbered_operation_key, members, key_term, key_terms, AreBelow, IsCell, HasOneMore, KeyStandsAt, HaveTermsOf, Grows}
 use Rattle.term_match.specs.ProfiledInstance.{ProfiledSubstitution, profiled_binding, profiled_instance, profiled_instances}
-use Rattle.term_store.specs.Numbered.{term_at, TakesIn, TakeIn, IsNumberOfTerm, numbered_pairs, numbers_in, values_of, IsInstanceOf, AreInstancesOf}
+use Rattle.term_rewriter.proofs.ValueLemmas.{bound_value, unbound_value}
+use Rattle.term_store.specs.Numbered.{term_at, TakesIn, TakeIn, IsNumberOfTerm, numbered_pairs, numbers_in, numbered_substitution, IsInstanceOf, AreInstancesOf}
 use Rattle.term_store.specs.NumberSearch.{number_under}
 use Rattle.term_store.proofs.CellLemmas.{grown_stays, grows_on, grows_not}
 use Rattle.term_store.proofs.GrowthLemmas.{operation_there, grows_one, terms_more, number_term}
 use Rattle.term_store.proofs.SearchLemmas.{pairs_under, under_below, below_more}
-use Rattle.term_store.proofs.ValueLemmas.{bound_value, unbound_value}
 
 pub grows_length : (before after : List (List ℕ)) → Grows before after → length before ≤ length after
 grows_length before after grows =
@@ -61,9 +61,10 @@ variable_taken t n s before key after is made more = record {
 pub variable_number : {E : Type 0} (pairs : List (ℕ × ℕ)) (t : ProfiledTerm) (n s : ℕ) (before : List (List ℕ)) (key : List ℕ)
     (after : List (List ℕ)) (result : Result ℕ E) → None ≡ number_under n pairs → t ≡ profiled_variable n s → key ≡ variable_key n s
     → HasOneMore before key after → IfOk result (λ number. KeyStandsAt after key number)
-    → IfOk result (λ number. IsInstanceOf (values_of pairs before) t before after number)
+    → IfOk result (λ number. IsInstanceOf (numbered_substitution pairs before) t before after number)
 variable_number pairs t n s before key after result nothing is made more stands =
-    IfOk-weaker result (λ number. KeyStandsAt after key number) (λ number. IsInstanceOf (values_of pairs before) t before after number)
+    IfOk-weaker result (λ number. KeyStandsAt after key number)
+    (λ number. IsInstanceOf (numbered_substitution pairs before) t before after number)
     (λ number at. record {
       within = at.within;
       term = λ signature of have.
@@ -73,28 +74,25 @@ variable_number pairs t n s before key after result nothing is made more stands 
           ∙ variable_is n s before key signature made
           ∙ unbound_value (numbered_pairs signature before pairs) n s
           (ap (λ (o : Option ℕ). option_map (term_at signature before) o) nothing ∙ pairs_under signature before n pairs)
-          ∙ ap (λ (u : ProfiledTerm). profiled_instance (values_of pairs before signature) u) (sym is);
+          ∙ ap (λ (u : ProfiledTerm). profiled_instance (numbered_substitution pairs before signature) u) (sym is);
     }) stands
 
 -- ---- A variable that has something
 
-pub known_taken : (t : ProfiledTerm) (keys : List (List ℕ)) → TakesIn t keys keys
-known_taken t keys = record { grows = grows_not keys; have = λ signature of have. have }
-
 pub known_number : (pairs : List (ℕ × ℕ)) (t : ProfiledTerm) (n s : ℕ) (keys : List (List ℕ)) (known : ℕ)
     → Some known ≡ number_under n pairs → t ≡ profiled_variable n s → AreBelow (length keys) (numbers_in pairs)
-    → IsInstanceOf (values_of pairs keys) t keys keys known
+    → IsInstanceOf (numbered_substitution pairs keys) t keys keys known
 known_number pairs t n s keys known found is below = record {
   within = (under_below (length keys) n pairs below).below known (sym found);
   term = λ signature of have.
       bound_value (numbered_pairs signature keys pairs) n s (term_at signature keys known)
       (ap (λ (o : Option ℕ). option_map (term_at signature keys) o) found ∙ pairs_under signature keys n pairs)
-      ∙ ap (λ (u : ProfiledTerm). profiled_instance (values_of pairs keys signature) u) (sym is);
+      ∙ ap (λ (u : ProfiledTerm). profiled_instance (numbered_substitution pairs keys signature) u) (sym is);
 }
 
 -- ---- An operation
 
-operation_cell : (f bound : ℕ) (numbers key : List ℕ) → key ≡ operation_key f numbers → AreBelow bound numbers → IsCell bound key
+operation_cell : (f bound : ℕ) (numbers key : List ℕ) → key ≡ numbered_operation_key f numbers → AreBelow bound numbers → IsCell bound key
 operation_cell f bound numbers key made below = subst (λ (k : List ℕ). IsCell bound k) (sym made) (refl, below)
 
 -- what was made of the arguments
@@ -102,40 +100,28 @@ pub record IsReadied (values : Signature → ProfiledSubstitution) (f : ℕ) (ts
     (key : List ℕ) : Type 0 where
   pub takes : TakeIn ts before middle
   pub numbers : List ℕ
-  pub made : key ≡ operation_key f numbers
+  pub made : key ≡ numbered_operation_key f numbers
   pub within : AreBelow (length middle) numbers
   pub terms : (signature : Signature) → AreOf signature ts → HaveTermsOf signature before
       → members (key_terms signature middle) numbers ≡ profiled_instances (values signature) ts
 
-numbers_behind : (old : List ℕ) (f : ℕ) (numbers begun more : List ℕ) → begun ≡ old ++ operation_key f [] → more ≡ begun ++ numbers
-    → more ≡ old ++ operation_key f numbers
+numbers_behind : (old : List ℕ) (f : ℕ) (numbers begun more : List ℕ) → begun ≡ old ++ numbered_operation_key f [] → more ≡ begun ++ numbers
+    → more ≡ old ++ numbered_operation_key f numbers
 numbers_behind old f numbers begun more is behind =
-    behind ∙ ap (λ (h : List ℕ). h ++ numbers) is ∙ append_assoc old (operation_key f []) numbers
+    behind ∙ ap (λ (h : List ℕ). h ++ numbers) is ∙ append_assoc old (numbered_operation_key f []) numbers
 
 -- their numbers stand behind those of other keys
 pub readied_behind : (values : Signature → ProfiledSubstitution) (f : ℕ) (ts : ProfiledTerms) (before middle : List (List ℕ))
-    (old begun more : List ℕ) (start : ℕ) → start ≡ length old → begun ≡ old ++ operation_key f [] → TakeIn ts before middle
+    (old begun more : List ℕ) (start : ℕ) → start ≡ length old → begun ≡ old ++ numbered_operation_key f [] → TakeIn ts before middle
     → AreInstancesOf values ts before middle begun more → IsReadied values f ts before middle (drop start more)
 readied_behind values f ts before middle old begun more start at is takes numbers = record {
   takes = takes;
   numbers = numbers.numbers;
   made = ap (λ (k : ℕ). drop k more) at ∙ ap (drop (length old)) (numbers_behind old f numbers.numbers begun more is numbers.behind)
-      ∙ drop-append_seam old (operation_key f numbers.numbers);
+      ∙ drop-append_seam old (numbered_operation_key f numbers.numbers);
   within = numbers.within;
   terms = numbers.terms;
 }
-
--- and taking them off leaves these
-pub left_before : (values : Signature → ProfiledSubstitution) (f : ℕ) (ts : ProfiledTerms) (before middle : List (List ℕ))
-    (old begun more : List ℕ) (start : ℕ) → start ≡ length old → begun ≡ old ++ operation_key f []
-    → AreInstancesOf values ts before middle begun more → (start ≤ length more) × (take start more ≡ old)
-left_before values f ts before middle old begun more start at is numbers =
-    let whole = numbers_behind old f numbers.numbers begun more is numbers.behind in
-    let long : length more ≡ length old + length (operation_key f numbers.numbers) =
-    ap length whole ∙ length-append old (operation_key f numbers.numbers) in (
-      omega (arith, at, long),
-      ap (λ (k : ℕ). take k more) at ∙ ap (take (length old)) whole ∙ take-append_seam old (operation_key f numbers.numbers),
-    )
 
 pub operation_taken : (values : Signature → ProfiledSubstitution) (t : ProfiledTerm) (f : ℕ) (operation : Operation) (ts : ProfiledTerms)
     (before middle : List (List ℕ)) (key : List ℕ) (after : List (List ℕ)) → t ≡ profiled_node f operation ts
@@ -213,21 +199,13 @@ pub record IsNumberedSoFar (pairs : List (ℕ × ℕ)) (ts later : ProfiledTerms
   pub grows : Grows before now
   pub takes : (after : List (List ℕ)) → TakeIn later now after → TakeIn ts before after
   pub numbers : (after : List (List ℕ)) (more : List ℕ) → TakeIn later now after
-      → AreInstancesOf (values_of pairs before) later now after key more
-      → AreInstancesOf (values_of pairs before) ts before after head more
-
-pub numbered_none : (pairs : List (ℕ × ℕ)) (ts : ProfiledTerms) (before : List (List ℕ)) (key : List ℕ)
-    → IsNumberedSoFar pairs ts ts before before key key
-numbered_none pairs ts before key = record {
-  grows = grows_not before;
-  takes = λ after takes. takes;
-  numbers = λ after more takes numbers. numbers;
-}
+      → AreInstancesOf (numbered_substitution pairs before) later now after key more
+      → AreInstancesOf (numbered_substitution pairs before) ts before after head more
 
 -- what the pairs put stays as more terms come
 pub values_stay : (pairs : List (ℕ × ℕ)) (t : ProfiledTerm) (before now next : List (List ℕ)) (n : ℕ) → Grows before now
-    → AreBelow (length before) (numbers_in pairs) → IsInstanceOf (values_of pairs now) t now next n
-    → IsInstanceOf (values_of pairs before) t now next n
+    → AreBelow (length before) (numbers_in pairs) → IsInstanceOf (numbered_substitution pairs now) t now next n
+    → IsInstanceOf (numbered_substitution pairs before) t now next n
 values_stay pairs t before now next n grows below number = record {
   within = number.within;
   term = λ signature of have.
@@ -238,7 +216,7 @@ values_stay pairs t before now next n grows below number = record {
 
 pub numbered_one : (pairs : List (ℕ × ℕ)) (t : ProfiledTerm) (ts later rest : ProfiledTerms) (before now next : List (List ℕ))
     (head key : List ℕ) (n : ℕ) → AreBelow (length before) (numbers_in pairs) → later ≡ profiled_term_then t rest
-    → IsNumberedSoFar pairs ts later before now head key → TakesIn t now next → IsInstanceOf (values_of pairs now) t now next n
+    → IsNumberedSoFar pairs ts later before now head key → TakesIn t now next → IsInstanceOf (numbered_substitution pairs now) t now next n
     → IsNumberedSoFar pairs ts rest before next head (key ++ n ∷ [])
 numbered_one pairs t ts later rest before now next head key n below is so_far one number = record {
   grows = grows_on before now next so_far.grows one.grows;
@@ -247,8 +225,8 @@ numbered_one pairs t ts later rest before now next head key n below is so_far on
   numbers = λ after more takes numbers.
       so_far.numbers after more
       (subst (λ (us : ProfiledTerms). TakeIn us now after) (sym is) (take_cons t rest now next after one takes))
-      (subst (λ (us : ProfiledTerms). AreInstancesOf (values_of pairs before) us now after key more) (sym is)
-      (number_cons (values_of pairs before) t rest now next after key more n one
+      (subst (λ (us : ProfiledTerms). AreInstancesOf (numbered_substitution pairs before) us now after key more) (sym is)
+      (number_cons (numbered_substitution pairs before) t rest now next after key more n one
       (values_stay pairs t before now next n so_far.grows below number) takes numbers));
 }
 
@@ -267,11 +245,11 @@ numbered_taken pairs ts later before now head key so_far = so_far.takes now (tak
 
 pub numbered_all : (pairs : List (ℕ × ℕ)) (ts later : ProfiledTerms) (before now : List (List ℕ)) (head key : List ℕ)
     → later ≡ no_profiled_terms → IsNumberedSoFar pairs ts later before now head key
-    → AreInstancesOf (values_of pairs before) ts before now head key
+    → AreInstancesOf (numbered_substitution pairs before) ts before now head key
 numbered_all pairs ts later before now head key none so_far =
     so_far.numbers now key (take_nothing later now)
-    (subst (λ (us : ProfiledTerms). AreInstancesOf (values_of pairs before) us now now key key) (sym none)
-    (number_nothing (values_of pairs before) now key))
+    (subst (λ (us : ProfiledTerms). AreInstancesOf (numbered_substitution pairs before) us now now key key) (sym none)
+    (number_nothing (numbered_substitution pairs before) now key))
 
 -- ---- Nothing put for variables
 
@@ -287,7 +265,8 @@ mutual
       let there = instances_same ts in
       λ i. profiled_term_then (here i) (there i)
 
-pub plain_number : (t : ProfiledTerm) (before after : List (List ℕ)) (n : ℕ) → IsInstanceOf (values_of [] before) t before after n
+pub plain_number : (t : ProfiledTerm) (before after : List (List ℕ)) (n : ℕ)
+    → IsInstanceOf (numbered_substitution [] before) t before after n
     → IsNumberOfTerm t before after n
 plain_number t before after n number = record {
   within = number.within;

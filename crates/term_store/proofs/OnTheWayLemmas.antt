@@ -6,15 +6,15 @@ use Rattle.std.proofs.Math.Seq.{drop-append_seam, take-append_seam, take-length}
 use Rattle.std.proofs.lemmas.List.{drop-map, reverse-append, take-map, take_more}
 use Rattle.lotos_base.specs.Signature.{Signature, IsOperation}
 use Rattle.sort_terms.specs.Operations.{operation_of}
-use Rattle.sort_terms.specs.ProfiledTerm.{ProfiledTerm, profiled_variable, profiled_node, profiled_term_then, IsOf, AreOf}
-use Rattle.sort_terms.specs.TermSize.{profiled_size, size_of, sizes_of}
+use Rattle.sort_terms.specs.ProfiledTerm.{ProfiledTerm, profiled_node, profiled_term_then, IsOf, AreOf}
+use Rattle.sort_terms.specs.TermSize.{size_of, sizes_of}
 use Rattle.sort_terms.specs.TermView.{all_profiled, profiled_of, profiled_terms}
 use Rattle.sort_terms.specs.declared.operations.Op.{Op}
 use Rattle.sort_terms.specs.declared.terms.Term.{Term}
 use Rattle.sort_terms.proofs.SizeLemmas.{sizes_popped}
-use Rattle.term_store.specs.Cells.{operation_key, members, key_terms, AreBelow, HasOneMore, KeyStandsAt, HaveTermsOf, Grows}
+use Rattle.term_store.specs.Cells.{numbered_operation_key, members, key_terms, AreBelow, HasOneMore, KeyStandsAt, HaveTermsOf, Grows}
 use Rattle.term_store.specs.Numbered.{term_at, TakesIn, IsNumberOfTerm}
-use Rattle.term_store.specs.OnTheWay.{with_numbered, numbered_by, IsLeftOf, AreLeftOf, halfway_of, IsOnItsWay, turns, turns_of}
+use Rattle.term_store.specs.OnTheWay.{with_numbered, numbered_by, IsLeftOf, AreLeftOf, halfway_of, IsOnItsWay, numbering_turns, numbering_turns_of}
 use Rattle.term_store.specs.declared.numbering.Numbering.{Numbering}
 use Rattle.term_store.specs.declared.numbering.Numbering.TheVariants.{First, Head}
 use Rattle.term_store.proofs.CellLemmas.{grown_stays, grows_on, grows_not}
@@ -28,16 +28,13 @@ numbered_append : (left more : List Numbering) (made : List ProfiledTerm)
 numbered_append [] more made = refl
 numbered_append (first ∷ left) more made = ap (with_numbered first) (numbered_append left more made)
 
-pub numbered_next : (all left : List Numbering) (next : Numbering) (made : List ProfiledTerm) → all ≡ left ++ next ∷ []
-    → numbered_by all made ≡ numbered_by left (with_numbered next made)
-numbered_next all left next made is = ap (λ list. numbered_by list made) is ∙ numbered_append left (next ∷ []) made
-
-turns_append : (left more : List Numbering) → turns_of (left ++ more) ≡ turns_of left + turns_of more
+turns_append : (left more : List Numbering) → numbering_turns_of (left ++ more) ≡ numbering_turns_of left + numbering_turns_of more
 turns_append [] more = omega arith
 turns_append (first ∷ left) more = let e = turns_append left more in omega arith
 
-pub turns_next : (all left : List Numbering) (next : Numbering) → all ≡ left ++ next ∷ [] → turns_of all ≡ turns next + turns_of left
-turns_next all left next is = let e = ap turns_of is ∙ turns_append left (next ∷ []) in omega arith
+pub turns_next : (all left : List Numbering) (next : Numbering) → all ≡ left ++ next ∷ []
+    → numbering_turns_of all ≡ numbering_turns next + numbering_turns_of left
+turns_next all left next is = let e = ap numbering_turns_of is ∙ turns_append left (next ∷ []) in omega arith
 
 pub left_parted : (signature : Signature) (left : List Numbering) (next : Numbering) → AreLeftOf signature (left ++ next ∷ [])
     → AreLeftOf signature left × IsLeftOf signature next
@@ -96,14 +93,6 @@ way_taken t before now after left u made way takes = record {
       let old = way.sound signature of have in takes.have signature old.next_of.0 old.terms;
 }
 
--- what is on its way has its parts among the keys
-pub way_takes : (t : ProfiledTerm) (before now : List (List ℕ)) (left : List Numbering) (next : List ProfiledTerm) (made : List ℕ)
-    → IsOnItsWay t before next (halfway_of now left made) → TakesIn t before now
-way_takes t before now left next made way = record {
-  grows = way.grows;
-  have = λ signature of have. (way.sound signature of have).terms;
-}
-
 -- ---- The first terms of a list
 
 -- what a list has at a position
@@ -127,13 +116,6 @@ sizes_last ts count before t is within at =
 
 pub sizes_all : (ts : List Term) (count : ℕ) → count ≡ length ts → sizes_of (take count ts) ≡ sizes_of ts
 sizes_all ts count is = ap (λ n. sizes_of (take n ts)) is ∙ ap sizes_of (take-length ts)
-
-pub size_some : (t : Term) → 0 < size_of t
-size_some t = go (profiled_of t)
-  where
-    go : (p : ProfiledTerm) → 0 < profiled_size p
-    go (profiled_variable n s) = omega arith
-    go (profiled_node f o us) = omega arith
 
 of_last : (signature : Signature) (ts : List Term) (t : Term) → AreOf signature (all_profiled (ts ++ t ∷ []))
     → AreOf signature (all_profiled ts) × IsOf signature (profiled_of t)
@@ -173,13 +155,6 @@ way_first t before now left more made terms count fewer x is within at pushed wa
                 ∙ old.comes;
           };
     })
-
--- none of them is left
-pub way_none : (t : ProfiledTerm) (before now : List (List ℕ)) (left : List Numbering) (made : List ℕ) (ts : List Term) (count : ℕ)
-    → count ≡ 0 → IsOnItsWay t before (map profiled_of (take count ts)) (halfway_of now left made)
-    → IsOnItsWay t before [] (halfway_of now left made)
-way_none t before now left made ts count none way =
-    subst (λ (n : ℕ). IsOnItsWay t before (map profiled_of (take n ts)) (halfway_of now left made)) none way
 
 -- they come next
 pub way_list : (t : ProfiledTerm) (before now : List (List ℕ)) (left : List Numbering) (made : List ℕ)
@@ -271,29 +246,29 @@ members_are signature keys (n ∷ ns) = ap (λ us. profiled_term_then (term_at s
 -- the keys after have the terms
 headed_have : (t : ProfiledTerm) (before now after : List (List ℕ)) (left : List Numbering) (made : List ℕ) (op count : ℕ)
     (profile : Bor (Rc Op Global)) → IsOnItsWay t before [] (halfway_of now (left ++ Head op profile count ∷ []) made)
-    → HasOneMore now (operation_key op (take count (reverse made))) after → (signature : Signature) → IsOf signature t
+    → HasOneMore now (numbered_operation_key op (take count (reverse made))) after → (signature : Signature) → IsOf signature t
     → HaveTermsOf signature before → HaveTermsOf signature after
 headed_have t before now after left made op count profile way more signature of have =
     let old = way.sound signature of have in
     let parts = left_parted signature left (Head op profile count) old.left_of in
     let head = operation_there signature op (operation_of profile.now.value) parts.1 in
     let within = below_first (length now) count (reverse made) way.below in
-    terms_more signature now (operation_key op (take count (reverse made))) after more (refl, within)
+    terms_more signature now (numbered_operation_key op (take count (reverse made))) after more (refl, within)
     (subst (λ o. IsOperation signature op o) (sym head) parts.1, members_of signature now (take count (reverse made)) old.terms within)
     old.terms
 
 pub head_taken : (t : ProfiledTerm) (before now after : List (List ℕ)) (left : List Numbering) (made : List ℕ) (op count : ℕ)
     (profile : Bor (Rc Op Global)) → IsOnItsWay t before [] (halfway_of now (left ++ Head op profile count ∷ []) made)
-    → HasOneMore now (operation_key op (take count (reverse made))) after → TakesIn t before after
+    → HasOneMore now (numbered_operation_key op (take count (reverse made))) after → TakesIn t before after
 head_taken t before now after left made op count profile way more = record {
-  grows = grows_on before now after way.grows (grows_one now (operation_key op (take count (reverse made))) after more);
+  grows = grows_on before now after way.grows (grows_one now (numbered_operation_key op (take count (reverse made))) after more);
   have = headed_have t before now after left made op count profile way more;
 }
 
 pub way_head : (t : ProfiledTerm) (before now after : List (List ℕ)) (left : List Numbering) (made rest all : List ℕ) (op count number : ℕ)
     (profile : Bor (Rc Op Global)) → IsOnItsWay t before [] (halfway_of now (left ++ Head op profile count ∷ []) made)
-    → HasOneMore now (operation_key op (take count (reverse made))) after
-    → KeyStandsAt after (operation_key op (take count (reverse made))) number → reverse rest ≡ drop count (reverse made)
+    → HasOneMore now (numbered_operation_key op (take count (reverse made))) after
+    → KeyStandsAt after (numbered_operation_key op (take count (reverse made))) number → reverse rest ≡ drop count (reverse made)
     → all ≡ rest ++ number ∷ [] → IsOnItsWay t before [] (halfway_of after left all)
 way_head t before now after left made rest all op count number profile way more stands behind pushed =
     subst (λ ns. IsOnItsWay t before [] (halfway_of after left ns)) (sym pushed) (record {
@@ -328,7 +303,7 @@ way_head t before now after left made rest all op count number profile way more 
     })
   where
     key : List ℕ
-    key = operation_key op (take count (reverse made))
+    key = numbered_operation_key op (take count (reverse made))
 
     grown : Grows now after
     grown = grows_one now key after more
@@ -347,19 +322,6 @@ pub way_begun_with : (t : ProfiledTerm) (keys : List (List ℕ)) (left : List Nu
 way_begun_with t keys left made none nothing =
     subst (λ list. IsOnItsWay t keys (t ∷ []) (halfway_of keys list made)) (sym none)
     (subst (λ ns. IsOnItsWay t keys (t ∷ []) (halfway_of keys [] ns)) (sym nothing) (way_begun t keys))
-
-pub way_ended : (t : ProfiledTerm) (before now : List (List ℕ)) (left : List Numbering) (made rest : List ℕ) (number : ℕ) → length left ≡ 0
-    → made ≡ rest ++ number ∷ [] → IsOnItsWay t before [] (halfway_of now left made) → IsNumberOfTerm t before now number
-way_ended t before now [] made rest number none popped way =
-    let ended = subst (λ ns. IsOnItsWay t before [] (halfway_of now [] ns)) popped way in
-    let first : reverse (rest ++ number ∷ []) ≡ number ∷ reverse rest = reverse-append rest (number ∷ []) in record {
-      within = (subst (AreBelow (length now)) first ended.below).0;
-      term = λ signature of have.
-          let comes : map (term_at signature now) (number ∷ reverse rest) ≡ t ∷ [] =
-          sym (ap (map (term_at signature now)) first) ∙ (ended.sound signature of have).comes in
-          cc;
-    }
-way_ended t before now (next ∷ left) made rest number none popped way = absurd (omega (arith, none))
 
 -- ---- Numbers that are taken off
 

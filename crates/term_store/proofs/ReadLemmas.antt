@@ -9,16 +9,16 @@ use Rattle.sort_terms.specs.TermView.{profiled_terms}
 use Rattle.sort_terms.specs.declared.operations.Op.{Op}
 use Rattle.path_order.specs.RulesView.{signature_in}
 use Rattle.path_order.specs.declared.rules.Rules.{Rules}
-use Rattle.term_store.specs.Cells.{nothing, operation_in, operation_at, members, key_term, key_terms, IsCell, HaveTermsOf}
+use Rattle.term_store.specs.Cells.{no_such_term, operation_in, operation_at, members, key_term, key_terms, IsCell, HaveTermsOf}
 use Rattle.term_store.specs.Numbered.{term_at}
 use Rattle.term_store.proofs.CellLemmas.{first_term_of_key, first_cell_at}
 use Rattle.term_store.proofs.FirstRuleLemmas.{operation_inside}
 
 -- as a list
 pub members_list : (terms : List ProfiledTerm) (ns : List ℕ)
-    → members terms ns ≡ profiled_terms (map (λ n. get_or terms n nothing) ns)
+    → members terms ns ≡ profiled_terms (map (λ n. get_or terms n no_such_term) ns)
 members_list terms [] = refl
-members_list terms (n ∷ ns) = ap (λ (ts : ProfiledTerms). profiled_term_then (get_or terms n nothing) ts) (members_list terms ns)
+members_list terms (n ∷ ns) = ap (λ (ts : ProfiledTerms). profiled_term_then (get_or terms n no_such_term) ts) (members_list terms ns)
 
 -- ---- A variable
 

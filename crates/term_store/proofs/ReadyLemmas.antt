@@ -9,7 +9,7 @@ use Rattle.term_store.specs.Cells.{operation_in, Grows}
 use Rattle.term_store.specs.Kept.{HasKeptForm, chosen_form}
 use Rattle.term_store.specs.Numbered.{term_at}
 use Rattle.term_store.specs.SharedView.{keys_in}
-use Rattle.term_store.specs.Tasks.{AreAll, numbers_of, arguments_at, Brings, After, HaveOneForm, IsDoable, AreDoable}
+use Rattle.term_store.specs.Tasks.{AreAll, numbers_of_arguments, arguments_at, Brings, After, HaveOneForm, IsDoable, AreDoable}
 use Rattle.term_store.specs.Turns.{CanBeDone, Advances}
 use Rattle.term_store.specs.Weight.{rest_cost, weight, weights}
 use Rattle.rewriting_theory.specs.Measure.{choice_cost}
@@ -99,7 +99,8 @@ key_stays before after n grows inside =
 
 arguments_stay : (before after : List (List ℕ)) (n : ℕ) → Grows before after → n < length before
     → arguments_at after n ≡ arguments_at before n
-arguments_stay before after n grows inside = ap (λ (key : List ℕ). numbers_of (operation_in key)) (key_stays before after n grows inside)
+arguments_stay before after n grows inside =
+    ap (λ (key : List ℕ). numbers_of_arguments (operation_in key)) (key_stays before after n grows inside)
 
 pub bare_stays : (rules : Rules) (before after : List (List ℕ)) (n : ℕ) → Grows before after → n < length before
     → bare (term_at (signature_in rules) after n) ≡ bare (term_at (signature_in rules) before n)

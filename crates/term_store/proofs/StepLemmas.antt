@@ -1,7 +1,7 @@
 -- What the first rule that matches a term makes of it, by numbers.
 use Rattle.std.proofs.Common.{◌≡◌, ◌<◌, ℕ, List, length, Option, None, Some, ap, sym, ◌∙◌, subst, Vec, Global}
 use Rattle.std.specs.Prelude.{slice_get, MatchOption}
-use Rattle.std.proofs.lemmas.Option.{same_Some, slice_get_within}
+use Rattle.std.proofs.lemmas.Option.{same_Some}
 use Rattle.rewriting_theory.specs.Rule.{Rule as PlainRule}
 use Rattle.rewriting_theory.specs.Matching.{Matches, FirstStep}
 use Rattle.sort_terms.specs.ProfiledTerm.{bare, IsOf}
@@ -16,7 +16,7 @@ use Rattle.term_rewriter.proofs.FormLemmas.{first_step, right_is_of}
 use Rattle.term_rewriter.specs.Form.{by_pairs}
 use Rattle.term_store.specs.Cells.{HaveTermsOf}
 use Rattle.term_store.specs.FirstRule.{NoRule, IsFirstRuleAt}
-use Rattle.term_store.specs.Numbered.{term_at, numbered_pairs, TakesIn, IsInstanceOf, values_of}
+use Rattle.term_store.specs.Numbered.{term_at, numbered_pairs, TakesIn, IsInstanceOf, numbered_substitution}
 use Rattle.term_store.specs.Turns.{CannotStep, StepsTo}
 use Rattle.term_store.proofs.CellLemmas.{grown_stays}
 
@@ -38,10 +38,6 @@ found_rule rules keys n number pairs None is first = cc
 found_rule rules keys n number pairs (Some found) is first =
     subst (λ (f : Found). IsFirstRuleAt rules keys n f.0 f.1.items) (same_Some found (number, pairs) is) first
 
-pub rule_within : (rules : Rules) (keys : List (List ℕ)) (n number : ℕ) (pairs : List (ℕ × ℕ))
-    → IsFirstRuleAt rules keys n number pairs → number < length rules.rules.items
-rule_within rules keys n number pairs it = slice_get_within rules.rules.items number it.is_first.rule it.is_first.is_at
-
 -- the terms that are there once the instance of the right side is
 pub right_kept : (rules : Rules) (before after : List (List ℕ)) (number : ℕ) (rule : Rule) (right : Term)
     → slice_get rules.rules.items number ≡ Some rule → right ≡ rule.right.term → TakesIn (profiled_of right) before after
@@ -53,7 +49,7 @@ right_kept rules before after number rule right is same takes have =
 pub right_made : (rules : Rules) (before after : List (List ℕ)) (n number next : ℕ) (pairs : List (ℕ × ℕ)) (rule : Rule) (right : Term)
     → HaveTermsOf (signature_in rules) before → n < length before → IsFirstRuleAt rules before n number pairs
     → slice_get rules.rules.items number ≡ Some rule → right ≡ rule.right.term → TakesIn (profiled_of right) before after
-    → IsInstanceOf (values_of pairs before) (profiled_of right) before after next → StepsTo rules after n next
+    → IsInstanceOf (numbered_substitution pairs before) (profiled_of right) before after next → StepsTo rules after n next
 right_made rules before after n number next pairs rule right have inside it is same takes made =
     let signature = signature_in rules in
     let first = it.is_first in

@@ -11,7 +11,7 @@ use Rattle.term_store.specs.FormsBelow.{HasFormsBelow}
 use Rattle.term_store.specs.Kept.{kept_at, HasKeptForm, KeepsAtMost, KeepsFor, number_or, form_or_same, IsSoundStore}
 use Rattle.term_store.specs.Numbered.{term_at}
 use Rattle.term_store.specs.SharedView.{keys_in}
-use Rattle.term_store.specs.Tasks.{AreAll, numbers_of, arguments_at, Brings, After, IsDoable, AreDoable, form_task, form_tasks, begun_tasks, whole_key}
+use Rattle.term_store.specs.Tasks.{AreAll, numbers_of_arguments, arguments_at, Brings, After, IsDoable, AreDoable, form_task, form_tasks, begun_tasks, whole_key}
 use Rattle.term_store.specs.Turns.{AreSound, StaySound, CanBeDone, Advances, IsWholeOf, CannotStep, StepsTo}
 use Rattle.term_store.specs.Weight.{rest_cost, cost_at, rest_at, weight, weights}
 use Rattle.term_store.specs.declared.forms.Forms.{Forms}
@@ -43,7 +43,7 @@ same_known before after same n known = (known.0, ap (λ kept. kept_at kept.items
 cost_parts_at : (rules : Rules) (keys : List (List ℕ)) (n : ℕ) (found : Option (ℕ × List ℕ)) → HaveTermsOf (signature_in rules) keys
     → n < length keys → operation_in (get_or keys n []) ≡ found
     → cost_at rules keys n ≡ suc (choice_costs (rules_have_forms rules)
-    (all_bare (members (key_terms (signature_in rules) keys) (numbers_of found))) + rest_at rules keys n)
+    (all_bare (members (key_terms (signature_in rules) keys) (numbers_of_arguments found))) + rest_at rules keys n)
 cost_parts_at rules keys n None have inside is =
     let it = variable_at (signature_in rules) keys n have inside (sym is) in
     let forms = rules_have_forms rules in
@@ -103,7 +103,7 @@ form_tasks_bring kept ns = go ns (form_tasks kept ns) (λ n is. is)
     )
 
 arguments_below : (keys : List (List ℕ)) (n : ℕ) (key : List ℕ) → n < length keys → IsCell n key
-    → AreBelow (length keys) (numbers_of (operation_in key))
+    → AreBelow (length keys) (numbers_of_arguments (operation_in key))
 arguments_below keys n [] inside cell = tt
 arguments_below keys n (zero ∷ ns) inside cell = tt
 arguments_below keys n (suc m ∷ []) inside cell = tt
@@ -288,12 +288,6 @@ advances_from rules before middle after tasks left grows same ready one =
           (after_more (HasKeptForm before.kept.items) (HasKeptForm middle.kept.items) tasks (same_known before middle same) n is);
       falls = omega (arith, stay, falls);
     }
-
--- ---- From the first turn to the last
-
-pub first_ready : (rules : Rules) (forms : Forms) (tasks : List Task) (n : ℕ) → n < length (keys_in forms.shared)
-    → tasks ≡ Form n ∷ [] → CanBeDone rules forms tasks
-first_ready rules forms tasks n inside is = subst (λ (l : List Task). CanBeDone rules forms l) (sym is) (inside, tt)
 
 -- ---- As the code has it
 

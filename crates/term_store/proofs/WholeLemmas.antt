@@ -10,7 +10,7 @@ use Rattle.term_store.specs.Cells.{operation_in, members, key_term, key_terms, A
 use Rattle.term_store.specs.FormsBelow.{HasFormsBelow, of_variable, of_operation}
 use Rattle.term_store.specs.Kept.{HasKeptForm, number_or, form_or_same, forms_of, IsSoundStore}
 use Rattle.term_store.specs.Numbered.{term_at}
-use Rattle.term_store.specs.Tasks.{AreAll, numbers_of, arguments_at, key_with_forms, whole_key}
+use Rattle.term_store.specs.Tasks.{AreAll, numbers_of_arguments, arguments_at, key_with_forms, whole_key}
 use Rattle.term_store.specs.Turns.{IsWholeOf}
 use Rattle.term_store.proofs.CellLemmas.{first_term_of_key, first_cell_at, grown_stays}
 use Rattle.term_store.proofs.GrowthLemmas.{grows_one, terms_more, number_term}
@@ -64,7 +64,7 @@ cell_below bound more (suc m ∷ f ∷ ns) below cell = (cell.0, go ns cell.1)
 
 whole_key_is : (rules : Rules) (keys : List (List ℕ)) (kept : List (Option ℕ)) (n : ℕ) (found : Option (ℕ × List ℕ))
     → IsSoundStore rules keys kept → n < length keys → operation_in (get_or keys n []) ≡ found
-    → AreAll (HasKeptForm kept) (numbers_of found)
+    → AreAll (HasKeptForm kept) (numbers_of_arguments found)
     → IsWholeKey rules keys n (key_with_forms kept (get_or keys n []) found)
 whole_key_is rules keys kept n None sound inside is known =
     let signature = signature_in rules in

@@ -10,8 +10,8 @@ abbrev pub variable_key : ℕ → ℕ → List ℕ
 variable_key n s = 0 ∷ n ∷ s ∷ []
 
 -- the key of an operation on the terms with these numbers
-abbrev pub operation_key : ℕ → List ℕ → List ℕ
-operation_key f ns = 1 ∷ f ∷ ns
+abbrev pub numbered_operation_key : ℕ → List ℕ → List ℕ
+numbered_operation_key f ns = 1 ∷ f ∷ ns
 
 -- the operation of a key with the numbers of its arguments, where it is not that of a variable
 abbrev pub operation_in : List ℕ → Option (ℕ × List ℕ)
@@ -21,8 +21,8 @@ operation_in (suc m ∷ []) = None
 operation_in (suc m ∷ f ∷ ns) = Some (f, ns)
 
 -- what stands where there is nothing
-abbrev pub nothing : ProfiledTerm
-nothing = profiled_variable 0 0
+abbrev pub no_such_term : ProfiledTerm
+no_such_term = profiled_variable 0 0
 
 -- the operation with this number
 abbrev pub operation_at : Signature → ℕ → Operation
@@ -32,23 +32,23 @@ operation_at signature f =
 -- the terms with these numbers
 abbrev pub members : List ProfiledTerm → List ℕ → ProfiledTerms
 members terms [] = no_profiled_terms
-members terms (n ∷ ns) = profiled_term_then (get_or terms n nothing) (members terms ns)
+members terms (n ∷ ns) = profiled_term_then (get_or terms n no_such_term) (members terms ns)
 
 -- the term of a key over the terms before it
 abbrev pub key_term : Signature → List ProfiledTerm → List ℕ → ProfiledTerm
-key_term signature terms [] = nothing
+key_term signature terms [] = no_such_term
 key_term signature terms (zero ∷ ns) = profiled_variable (get_or ns 0 0) (get_or ns 1 0)
 key_term signature terms (suc m ∷ ns) =
     profiled_node (get_or ns 0 0) (operation_at signature (get_or ns 0 0)) (members terms (drop 1 ns))
 
 -- the terms, and behind them those of the keys
-abbrev pub with_terms : Signature → List ProfiledTerm → List (List ℕ) → List ProfiledTerm
-with_terms signature terms [] = terms
-with_terms signature terms (key ∷ keys) = with_terms signature (terms ++ key_term signature terms key ∷ []) keys
+abbrev pub with_key_terms : Signature → List ProfiledTerm → List (List ℕ) → List ProfiledTerm
+with_key_terms signature terms [] = terms
+with_key_terms signature terms (key ∷ keys) = with_key_terms signature (terms ++ key_term signature terms key ∷ []) keys
 
 -- the terms of the keys, each at the number of its key
 abbrev pub key_terms : Signature → List (List ℕ) → List ProfiledTerm
-key_terms signature keys = with_terms signature [] keys
+key_terms signature keys = with_key_terms signature [] keys
 
 -- All of the numbers are below the bound.
 abbrev pub AreBelow : ℕ → List ℕ → Type 0
@@ -85,7 +85,7 @@ pub record KeyStandsAt (keys : List (List ℕ)) (key : List ℕ) (n : ℕ) : Typ
 pub record HaveTermsOf (signature : Signature) (keys : List (List ℕ)) : Type 0 where
   pub cells : AreCells 0 keys
   pub once : IsOnceEach keys
-  pub of : (n : ℕ) → n < length keys → IsOf signature (get_or (key_terms signature keys) n nothing)
+  pub of : (n : ℕ) → n < length keys → IsOf signature (get_or (key_terms signature keys) n no_such_term)
 
 -- The second list has the keys of the first one and none, or more, behind them.
 abbrev pub Grows : List (List ℕ) → List (List ℕ) → Type 0

@@ -9,7 +9,7 @@ use Rattle.term_match.specs.Search.{searched}
 use Rattle.path_order.specs.RulesView.{signature_in}
 use Rattle.path_order.specs.declared.rule.Rule.{Rule}
 use Rattle.path_order.specs.declared.rules.Rules.{Rules}
-use Rattle.term_rewriter.specs.FirstHead.{is_open, begins_with}
+use Rattle.term_rewriter.specs.FirstHead.{is_open, begins_with_heads}
 use Rattle.term_rewriter.specs.FirstMatch.{NoneMatches, IsFirstMatch}
 use Rattle.term_store.specs.Cells.{AreBelow}
 use Rattle.term_store.specs.Numbered.{term_at, numbered_pairs, numbers_in}
@@ -64,7 +64,7 @@ IsHeadAlone f t = is_open f t ≡ true
 
 -- The operation is at the head of the term, and this one, if it is one, at the head of the first argument.
 abbrev pub BeginsAs : ℕ → Option ℕ → Term → Type 0
-BeginsAs f first t = (g : ℕ) × (first ≡ Some g) × (begins_with f g t ≡ true)
+BeginsAs f first t = (g : ℕ) × (first ≡ Some g) × (begins_with_heads f g t ≡ true)
 
 -- a rule that matches, with what its variables have
 abbrev pub Found : Type 0

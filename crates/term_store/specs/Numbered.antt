@@ -4,11 +4,11 @@ use Rattle.std.proofs.Common.{get_or}
 use Rattle.lotos_base.specs.Signature.{Signature}
 use Rattle.sort_terms.specs.ProfiledTerm.{ProfiledTerm, ProfiledTerms, IsOf, AreOf}
 use Rattle.term_match.specs.ProfiledInstance.{ProfiledSubstitution, profiled_binding, profiled_instance, profiled_instances}
-use Rattle.term_store.specs.Cells.{nothing, members, key_terms, AreBelow, HaveTermsOf, Grows}
+use Rattle.term_store.specs.Cells.{no_such_term, members, key_terms, AreBelow, HaveTermsOf, Grows}
 
 -- the term with the number
 abbrev pub term_at : Signature → List (List ℕ) → ℕ → ProfiledTerm
-term_at signature keys n = get_or (key_terms signature keys) n nothing
+term_at signature keys n = get_or (key_terms signature keys) n no_such_term
 
 -- The keys after have those before; and if the terms before are of a signature that the new term is of, those after are.
 pub record TakesIn (t : ProfiledTerm) (before after : List (List ℕ)) : Type 0 where
@@ -38,8 +38,8 @@ abbrev pub numbers_in : List (ℕ × ℕ) → List ℕ
 numbers_in pairs = map (λ pair. pair.1) pairs
 
 -- what the pairs put for variables
-abbrev pub values_of : List (ℕ × ℕ) → List (List ℕ) → Signature → ProfiledSubstitution
-values_of pairs keys signature = profiled_binding (numbered_pairs signature keys pairs)
+abbrev pub numbered_substitution : List (ℕ × ℕ) → List (List ℕ) → Signature → ProfiledSubstitution
+numbered_substitution pairs keys signature = profiled_binding (numbered_pairs signature keys pairs)
 
 -- The number is that of the term with what the substitution puts for its variables.
 pub record IsInstanceOf (values : Signature → ProfiledSubstitution) (t : ProfiledTerm) (before after : List (List ℕ)) (n : ℕ)

@@ -65,10 +65,10 @@ abbrev pub KeepsTaken : List ProfiledTerm → Halfway → List (List ℕ) → Ty
 KeepsTaken next old keys = (t : ProfiledTerm) (before : List (List ℕ)) → IsOnItsWay t before next old → TakesIn t before keys
 
 -- how many turns it takes, at most
-abbrev pub turns : Numbering → ℕ
-turns (First terms count) = 1 + 3 * sizes_of (take count terms.now.items)
-turns (Head op profile count) = 1
+abbrev pub numbering_turns : Numbering → ℕ
+numbering_turns (First terms count) = 1 + 3 * sizes_of (take count terms.now.items)
+numbering_turns (Head op profile count) = 1
 
-abbrev pub turns_of : List Numbering → ℕ
-turns_of [] = 0
-turns_of (next ∷ left) = turns next + turns_of left
+abbrev pub numbering_turns_of : List Numbering → ℕ
+numbering_turns_of [] = 0
+numbering_turns_of (next ∷ left) = numbering_turns next + numbering_turns_of left

@@ -16,13 +16,13 @@ AreAll P [] = Unit {0}
 AreAll P (n ∷ ns) = P n × AreAll P ns
 
 -- the numbers of the arguments of an operation; of a variable there are none
-abbrev pub numbers_of : Option (ℕ × List ℕ) → List ℕ
-numbers_of None = []
-numbers_of (Some found) = found.1
+abbrev pub numbers_of_arguments : Option (ℕ × List ℕ) → List ℕ
+numbers_of_arguments None = []
+numbers_of_arguments (Some found) = found.1
 
 -- those of the arguments of the term with the number
 abbrev pub arguments_at : List (List ℕ) → ℕ → List ℕ
-arguments_at keys n = numbers_of (operation_in (get_or keys n []))
+arguments_at keys n = numbers_of_arguments (operation_in (get_or keys n []))
 
 -- The form of the term with the number is kept when the task is done.
 abbrev pub Brings : Task → ℕ → Type 0

@@ -2,14 +2,14 @@
 
 ghost use Rattle.sort_terms.specs.TermView.{all_profiled, profiled_of};
 ghost use Rattle.std.specs.Prelude.{◌≡◌, ◌≤◌, ◌++◌, [], IfOk, OnOk, drop, length, take};
-ghost use Rattle.term_store.specs.Cells.{AreBelow, HasOneMore, KeyStandsAt, operation_key, variable_key};
+ghost use Rattle.term_store.specs.Cells.{AreBelow, HasOneMore, KeyStandsAt, numbered_operation_key, variable_key};
 ghost use Rattle.term_store.specs.Numbered.{
   AreInstancesOf,
   IsInstanceOf,
   TakeIn,
   TakesIn,
   numbers_in,
-  values_of,
+  numbered_substitution,
 };
 ghost use Rattle.term_store.specs.SharedView.{keys_in};
 
@@ -29,7 +29,8 @@ pub fn instance(
 ) -> Result<usize, NoMemory>
     requires { AreBelow (length (keys_in shared.old)) (numbers_in pairs.now) }
     ensures takes { TakesIn (profiled_of term.now) (keys_in shared.old) (keys_in shared.new) }
-    ensures number { IfOk result (λ n. IsInstanceOf (values_of pairs.now (keys_in shared.old))
+    ensures number { IfOk result
+        (λ n. IsInstanceOf (numbered_substitution pairs.now (keys_in shared.old))
         (profiled_of term.now) (keys_in shared.old) (keys_in shared.new) n) }
 {
     let mut key = Vec::new(alloc);
@@ -47,7 +48,8 @@ fn instance_by(
 ) -> Result<usize, NoMemory>
     requires { AreBelow (length (keys_in shared.old)) (numbers_in pairs.now) }
     ensures takes { TakesIn (profiled_of term.now) (keys_in shared.old) (keys_in shared.new) }
-    ensures number { IfOk result (λ n. IsInstanceOf (values_of pairs.now (keys_in shared.old))
+    ensures number { IfOk result
+        (λ n. IsInstanceOf (numbered_substitution pairs.now (keys_in shared.old))
         (profiled_of term.now) (keys_in shared.old) (keys_in shared.new) n) }
     ensures same { OnOk result (key.new.items ≡ key.old.items) }
 {
@@ -78,7 +80,7 @@ fn add_instances(
     ensures takes { TakeIn (all_profiled terms.now.items) (keys_in shared.old)
         (keys_in shared.new) }
     ensures numbers { OnOk result (AreInstancesOf
-        (values_of pairs.now (keys_in shared.old)) (all_profiled terms.now.items)
+        (numbered_substitution pairs.now (keys_in shared.old)) (all_profiled terms.now.items)
         (keys_in shared.old) (keys_in shared.new) key.old.items key.new.items) }
 {
     for term in terms {
@@ -90,7 +92,7 @@ fn add_instances(
 
 /// Begins the key of an operation at the end.
 pub(crate) fn begin_key(key: &mut Vec<usize>, op: usize) -> Result<(), NoMemory>
-    ensures { OnOk result (key.new.items ≡ key.old.items ++ operation_key op []) }
+    ensures { OnOk result (key.new.items ≡ key.old.items ++ numbered_operation_key op []) }
 {
     key.push(1)?;
     key.push(op)?;

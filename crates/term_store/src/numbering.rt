@@ -17,14 +17,14 @@ ghost use Rattle.std.specs.Prelude.{
   reverse,
   take,
 };
-ghost use Rattle.term_store.specs.Cells.{HasOneMore, KeyStandsAt, operation_key};
+ghost use Rattle.term_store.specs.Cells.{HasOneMore, KeyStandsAt, numbered_operation_key};
 ghost use Rattle.term_store.specs.Numbered.{IsNumberOfTerm, TakesIn};
 ghost use Rattle.term_store.specs.OnTheWay.{
   halfway_of,
   KeepsTaken,
   KeepsWay,
-  turns,
-  turns_of,
+  numbering_turns,
+  numbering_turns_of,
 };
 ghost use Rattle.term_store.specs.SharedView.{keys_in};
 
@@ -77,8 +77,8 @@ fn number_next<'a>(
     ensures taken { KeepsTaken []
         (halfway_of (keys_in shared.old) (left.old.items ++ next.entry ∷ []) made.old.items)
         (keys_in shared.new) }
-    ensures less { OnOk result (turns_of left.new.items
-        < turns next.entry + turns_of left.old.items) }
+    ensures less { OnOk result (numbering_turns_of left.new.items
+        < numbering_turns next.entry + numbering_turns_of left.old.items) }
 {
     match next {
         Numbering::First(terms, count) => begin_last(alloc, shared, terms, count, left, made),
@@ -103,8 +103,8 @@ fn begin_last<'a>(
         (halfway_of (keys_in shared.new) left.new.items made.new.items)) }
     ensures taken { KeepsTaken (map profiled_of (take count terms.now.items))
         (halfway_of (keys_in shared.old) left.old.items made.old.items) (keys_in shared.new) }
-    ensures less { OnOk result (turns_of left.new.items
-        < 1 + 3 * sizes_of (take count terms.now.items) + turns_of left.old.items) }
+    ensures less { OnOk result (numbering_turns_of left.new.items
+        < 1 + 3 * sizes_of (take count terms.now.items) + numbering_turns_of left.old.items) }
 {
     if count == 0 {
         return Ok(());
@@ -130,8 +130,8 @@ fn begin<'a>(
         (halfway_of (keys_in shared.new) left.new.items made.new.items)) }
     ensures taken { KeepsTaken (profiled_of term.now ∷ [])
         (halfway_of (keys_in shared.old) left.old.items made.old.items) (keys_in shared.new) }
-    ensures less { OnOk result (turns_of left.new.items
-        < 3 * size_of term.now + turns_of left.old.items) }
+    ensures less { OnOk result (numbering_turns_of left.new.items
+        < 3 * size_of term.now + numbering_turns_of left.old.items) }
 {
     match term {
         Term::Var { number, sort } => {
@@ -161,9 +161,9 @@ fn number_above(
     key: &mut Vec<usize>,
 ) -> Result<usize, NoMemory>
     ensures more { HasOneMore (keys_in shared.old)
-        (operation_key op (take count (reverse made.old.items))) (keys_in shared.new) }
+        (numbered_operation_key op (take count (reverse made.old.items))) (keys_in shared.new) }
     ensures stands { IfOk result (λ n. KeyStandsAt (keys_in shared.new)
-        (operation_key op (take count (reverse made.old.items))) n) }
+        (numbered_operation_key op (take count (reverse made.old.items))) n) }
     ensures rest { OnOk result (reverse made.new.items ≡ drop count (reverse made.old.items)) }
 {
     key.truncate(0);

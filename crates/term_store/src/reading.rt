@@ -10,9 +10,9 @@ ghost use Rattle.term_store.specs.Cells.{HaveTermsOf, operation_in};
 ghost use Rattle.term_store.specs.Made.{
   AreMadeOf,
   all_made,
-  number_in,
-  turns,
-  turns_of,
+  number_of_making,
+  making_turns,
+  making_turns_of,
   with_made,
 };
 ghost use Rattle.term_store.specs.Numbered.{term_at};
@@ -89,16 +89,16 @@ fn make(
     requires profiled { map (λ p. operation_of p.value) profiles.now.items
         ≡ (signature_in rules.now).operations }
     requires have { HaveTermsOf (signature_in rules.now) (keys_in shared.now) }
-    requires within { number_in next < length (keys_in shared.now) }
+    requires within { number_of_making next < length (keys_in shared.now) }
     ensures same { OnOk result (all_made (signature_in rules.now) (keys_in shared.now)
         left.new.items (made_of made.new.items) ≡ all_made (signature_in rules.now)
         (keys_in shared.now) left.old.items (with_made (signature_in rules.now)
         (keys_in shared.now) next (made_of made.old.items))) }
     ensures within { OnOk result (AreMadeOf (keys_in shared.now) left.old.items
         → AreMadeOf (keys_in shared.now) left.new.items) }
-    ensures less { OnOk result (turns_of (signature_in rules.now) (keys_in shared.now)
-        left.new.items < turns (signature_in rules.now) (keys_in shared.now) next
-        + turns_of (signature_in rules.now) (keys_in shared.now) left.old.items) }
+    ensures less { OnOk result (making_turns_of (signature_in rules.now) (keys_in shared.now)
+        left.new.items < making_turns (signature_in rules.now) (keys_in shared.now) next
+        + making_turns_of (signature_in rules.now) (keys_in shared.now) left.old.items) }
 {
     match next {
         Making::Term(number) => begin(rules, shared, number, left, made),
@@ -129,9 +129,10 @@ fn begin(
         (term_at (signature_in rules.now) (keys_in shared.now) number ∷ made_of made.old.items)) }
     ensures within { OnOk result (AreMadeOf (keys_in shared.now) left.old.items
         → AreMadeOf (keys_in shared.now) left.new.items) }
-    ensures less { OnOk result (turns_of (signature_in rules.now) (keys_in shared.now)
-        left.new.items < turns (signature_in rules.now) (keys_in shared.now) (term_making number)
-        + turns_of (signature_in rules.now) (keys_in shared.now) left.old.items) }
+    ensures less { OnOk result (making_turns_of (signature_in rules.now) (keys_in shared.now)
+        left.new.items < making_turns (signature_in rules.now) (keys_in shared.now)
+        (term_making number)
+        + making_turns_of (signature_in rules.now) (keys_in shared.now) left.old.items) }
 {
     match shared.operation(number) {
         None => Ok(made.push(read_variable(rules, shared, number))?),

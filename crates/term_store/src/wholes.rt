@@ -1,7 +1,7 @@
 //! Operations on the chosen forms of their arguments.
 
 ghost use Rattle.std.specs.Prelude.{◌≡◌, ◌++◌, ◌<◌, [], IfOk, length};
-ghost use Rattle.term_store.specs.Cells.{AreCells, HasOneMore, KeyStandsAt, operation_key};
+ghost use Rattle.term_store.specs.Cells.{AreCells, HasOneMore, KeyStandsAt, numbered_operation_key};
 ghost use Rattle.term_store.specs.Kept.{forms_of};
 ghost use Rattle.term_store.specs.SharedView.{keys_in};
 ghost use Rattle.term_store.specs.Tasks.{whole_key};
@@ -55,7 +55,7 @@ fn with_forms(forms: &Forms, numbers: &[usize], mut key: Vec<usize>) -> Result<V
 // The key of an operation, with room for the numbers of so many arguments, none of which stands
 // there yet.
 fn head_key(alloc: Global, op: usize, count: usize) -> Result<Vec<usize>, NoMemory>
-    ensures { IfOk result (λ key. key.items ≡ operation_key op []) }
+    ensures { IfOk result (λ key. key.items ≡ numbered_operation_key op []) }
 {
     let mut key = Vec::with_capacity(alloc, count.saturating_add(2))?;
     key.push(1)?;

@@ -13,7 +13,7 @@ use Rattle.lotos_base.proofs.SubstitutionLemmas.{substituted_twice}
 use Rattle.rewriting_theory.specs.Rule.{Rule, IsNode, IsRuleAt}
 use Rattle.rewriting_theory.specs.CriticalPair.{CriticalPair, IsCriticalPair}
 use Rattle.termination_theory.specs.OrderCases.{later_above}
-use Rattle.termination_theory.specs.OrientationCases.{rule_of, addition_rules}
+use Rattle.termination_theory.specs.OrientationCases.{rule_from_equation, addition_rules}
 use Rattle.termination_theory.specs.Orientation.{NumberedRule}
 use Rattle.termination_theory.specs.CanonCases.{AdditionCanonCases}
 use Rattle.termination_theory.proofs.OrientationLemmas.{rules_of_data}
@@ -111,8 +111,8 @@ no_pair pair is =
 
 abbrev numbered : List NumberedRule
 numbered =
-    rule_of 0 (plus nought x_natural) x_natural
-    ∷ rule_of 1 (plus (successor x_natural) y_natural) (successor (plus x_natural y_natural))
+    rule_from_equation 0 (plus nought x_natural) x_natural
+    ∷ rule_from_equation 1 (plus (successor x_natural) y_natural) (successor (plus x_natural y_natural))
     ∷ []
 
 -- the term of a number

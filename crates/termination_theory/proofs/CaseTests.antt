@@ -10,7 +10,7 @@ use Rattle.lotos_base.proofs.TestLemmas.{Decides-term_eq}
 use Rattle.rewriting_theory.specs.Rule.{Rule}
 use Rattle.rewriting_theory.specs.Matching.{Matches, NoMatch, FirstStep}
 use Rattle.rewriting_theory.specs.ChosenForm.{Chosen, chosen_variable, chosen_done, chosen_next, AllChosen, all_chosen, chosen_then}
-use Rattle.rewriting_theory.proofs.MatchLemmas.{matching, matching_matches, no_match_then, first_step_later, first_step_here}
+use Rattle.rewriting_theory.proofs.MatchLemmas.{matching, matching_matches, no_match_then, first_step_later, first_step_here, no_rule}
 
 -- ---- chosen forms
 
@@ -42,9 +42,6 @@ chosen_within (suc n) rules (node f ts) =
 abbrev FirstMeans : List Rule → Term → Option Term → Type 0
 FirstMeans rules t None = NoMatch rules t
 FirstMeans rules t (Some u) = FirstStep rules t u
-
-no_rule : (t : Term) → NoMatch [] t
-no_rule t rule is found = let none : None ≡ Some rule = is.1 in cc
 
 not_matched : (l t : Term) → term_eq (substituted (matching l t) l) t ≡ false → Matches l t → ⊥
 not_matched l t e found =

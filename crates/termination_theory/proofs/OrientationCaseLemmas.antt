@@ -11,8 +11,8 @@ use Rattle.lotos_base.specs.SmallData.{nought, successor, plus, x_natural, nough
 use Rattle.termination_theory.specs.Precedence.{Precedence}
 use Rattle.termination_theory.specs.OrderTest.{is_greater}
 use Rattle.termination_theory.specs.Orientation.{NumberedRule, GiveRules, no_more, dropped, turned_next, IsUnorientable, IsFirstUnorientable}
-use Rattle.termination_theory.specs.OrderCases.{later_above, with_right, with_greatest, x, y}
-use Rattle.termination_theory.specs.OrientationCases.{on_one, on_two, z, rule_of, sides, sum, CommutativeCases, zero_term, add, to_the_right, to_the_left, GroupCases, copied_rules, CopiedCases, RankedCases, StatusCases, addition_rules, AdditionCases, DescentCases}
+use Rattle.termination_theory.specs.OrderCases.{later_above, compared_from_right, with_greatest, x, y}
+use Rattle.termination_theory.specs.OrientationCases.{on_one, on_two, z, rule_from_equation, equation_with_sides, sum_of_terms, CommutativeCases, zero_term, add, to_the_right, to_the_left, GroupCases, copied_rules, CopiedCases, RankedCases, StatusCases, addition_rules, AdditionCases, DescentCases}
 use Rattle.termination_theory.proofs.OrientationLemmas.{unlike, not_greater, turns}
 use Rattle.termination_theory.proofs.CaseLemmas.{is}
 use Rattle.termination_theory.proofs.CaseTests.{chosen_found}
@@ -22,7 +22,7 @@ turned_on : (p : Precedence) (direction : Direction) (n : ℕ) (equation : Equat
     (rules : List NumberedRule) → term_eq equation.left equation.right ≡ false
     → is_greater p (old_side direction equation) (new_side direction equation) ≡ true
     → GiveRules p (suc n) equations rules
-    → GiveRules p n (equation ∷ equations) (rule_of n (old_side direction equation) (new_side direction equation) ∷ rules)
+    → GiveRules p n (equation ∷ equations) (rule_from_equation n (old_side direction equation) (new_side direction equation) ∷ rules)
 turned_on p direction n equation equations rules differ greater rest =
     turned_next direction refl (unlike equation.left equation.right differ)
     (turns p direction equation (is p (old_side direction equation) (new_side direction equation) greater)) rest
@@ -42,46 +42,46 @@ first_of_all p equation equations not =
     record { equation = equation; is_at = refl; unorientable = not; none_before = λ k other before e. absurd (omega arith) }
 
 behind_identical : (p : Precedence) (t : Term) (equations : List Equation) (number : ℕ) → IsFirstUnorientable p equations number
-    → IsFirstUnorientable p (sides t t ∷ equations) (suc number)
+    → IsFirstUnorientable p (equation_with_sides t t ∷ equations) (suc number)
 behind_identical p t equations number first =
     record { equation = first.equation; is_at = first.is_at; unorientable = first.unorientable; none_before = earlier }
   where
-    earlier : (k : ℕ) (other : Equation) → k < suc number → slice_get (sides t t ∷ equations) k ≡ Some other
+    earlier : (k : ℕ) (other : Equation) → k < suc number → slice_get (equation_with_sides t t ∷ equations) k ≡ Some other
         → IsUnorientable p other → ⊥
     earlier zero other before e not =
-        not.differ (subst (λ (o : Equation). o.left ≡ o.right) (same_Some (sides t t) other e) refl)
+        not.differ (subst (λ (o : Equation). o.left ≡ o.right) (same_Some (equation_with_sides t t) other e) refl)
     earlier (suc k) other before e not = first.none_before k other (omega arith) e not
 
 abbrev commuting : Equation
-commuting = sides (sum x y) (sum y x)
+commuting = equation_with_sides (sum_of_terms x y) (sum_of_terms y x)
 
 pub commutative_cases : CommutativeCases
 commutative_cases = record {
   from_the_left = first_of_all later_above commuting [] (unorientable later_above commuting refl refl refl);
-  from_the_right = first_of_all (with_right 0) commuting [] (unorientable (with_right 0) commuting refl refl refl);
+  from_the_right = first_of_all (compared_from_right 0) commuting [] (unorientable (compared_from_right 0) commuting refl refl refl);
   second_of_two = behind_identical later_above x (commuting ∷ []) 0
       (first_of_all later_above commuting [] (unorientable later_above commuting refl refl refl));
   identical = dropped refl no_more;
-  numbers_kept = dropped refl (turned_on later_above forward 1 (sides (sum x x) x) [] [] refl refl no_more);
+  numbers_kept = dropped refl (turned_on later_above forward 1 (equation_with_sides (sum_of_terms x x) x) [] [] refl refl no_more);
 }
 
 pub group_cases : GroupCases
 group_cases = record {
-  from_the_left = turned_on later_above forward 0 (sides (add (add x y) z) (add x (add y z))) _ _ refl refl
-      (turned_on later_above forward 1 (sides (add x zero_term) x) _ _ refl refl
-      (turned_on later_above forward 2 (sides (add zero_term x) x) [] [] refl refl no_more));
+  from_the_left = turned_on later_above forward 0 (equation_with_sides (add (add x y) z) (add x (add y z))) _ _ refl refl
+      (turned_on later_above forward 1 (equation_with_sides (add x zero_term) x) _ _ refl refl
+      (turned_on later_above forward 2 (equation_with_sides (add zero_term x) x) [] [] refl refl no_more));
   grouped_to_the_right = chosen_found 9 to_the_right _ _ refl;
   zero_right = chosen_found 9 to_the_right _ _ refl;
   zero_left = chosen_found 9 to_the_right _ _ refl;
   zero_alone = chosen_found 9 to_the_right _ _ refl;
-  from_the_right = turned_on (with_right 2) backward 0 (sides (add (add x y) z) (add x (add y z))) _ _ refl refl
-      (turned_on (with_right 2) forward 1 (sides (add x zero_term) x) _ _ refl refl
-      (turned_on (with_right 2) forward 2 (sides (add zero_term x) x) [] [] refl refl no_more));
+  from_the_right = turned_on (compared_from_right 2) backward 0 (equation_with_sides (add (add x y) z) (add x (add y z))) _ _ refl refl
+      (turned_on (compared_from_right 2) forward 1 (equation_with_sides (add x zero_term) x) _ _ refl refl
+      (turned_on (compared_from_right 2) forward 2 (equation_with_sides (add zero_term x) x) [] [] refl refl no_more));
   grouped_to_the_left = chosen_found 9 to_the_left _ _ refl;
 }
 
 abbrev once : ℕ → Term → Equation
-once operation t = sides (on_one operation (on_one operation t)) (on_one operation t)
+once operation t = equation_with_sides (on_one operation (on_one operation t)) (on_one operation t)
 
 pub copied_cases : CopiedCases
 copied_cases = record {
@@ -93,19 +93,19 @@ copied_cases = record {
 
 pub ranked_cases : RankedCases
 ranked_cases = record {
-  as_declared = turned_on later_above backward 0 (sides (on_one 1 x) (on_one 2 x)) [] [] refl refl no_more;
+  as_declared = turned_on later_above backward 0 (equation_with_sides (on_one 1 x) (on_one 2 x)) [] [] refl refl no_more;
   to_the_earlier = chosen_found 9 _ _ _ refl;
-  by_order = turned_on (with_greatest 1 3) forward 0 (sides (on_one 1 x) (on_one 2 x)) [] [] refl refl no_more;
+  by_order = turned_on (with_greatest 1 3) forward 0 (equation_with_sides (on_one 1 x) (on_one 2 x)) [] [] refl refl no_more;
   to_the_later = chosen_found 9 _ _ _ refl;
 }
 
 abbrev lopsided : Equation
-lopsided = sides (on_two 2 x (on_one 1 y)) (on_two 2 y y)
+lopsided = equation_with_sides (on_two 2 x (on_one 1 y)) (on_two 2 y y)
 
 pub status_cases : StatusCases
 status_cases = record {
   from_the_left = first_of_all later_above lopsided [] (unorientable later_above lopsided refl refl refl);
-  from_the_right = turned_on (with_right 2) forward 0 lopsided [] [] refl refl no_more;
+  from_the_right = turned_on (compared_from_right 2) forward 0 lopsided [] [] refl refl no_more;
   chosen = chosen_found 9 _ _ _ refl;
 }
 

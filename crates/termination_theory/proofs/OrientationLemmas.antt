@@ -207,6 +207,10 @@ rules_of_data p data_ rules orientation = (
   λ rule is. (comes_of orientation is.0 rule is.1).turns_so.greater,
 )
 
+pub orientation_well_formed : (p : Precedence) (data_ : Data) (rules : List NumberedRule) → IsOrientation p data_ rules
+    → AreWellFormedRules (rules_of rules)
+orientation_well_formed p data_ rules is = oriented_well_formed p (rules_of rules) (rules_of_data p data_ rules is).1
+
 -- ---- numbers
 
 -- the number of a rule, counted from that of the first equation

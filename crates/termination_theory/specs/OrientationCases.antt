@@ -3,12 +3,12 @@
 use Rattle.std.specs.Prelude.{ℕ, List, [], ◌∷◌}
 use Rattle.lotos_base.specs.Term.{Term, variable, node, no_terms, term_then}
 use Rattle.lotos_base.specs.Equation.{Equation}
-use Rattle.lotos_base.specs.SmallData.{equation_of, nought, successor, plus, x_natural, y_natural, natural_data}
+use Rattle.lotos_base.specs.SmallData.{example_equation, nought, successor, plus, x_natural, y_natural, natural_data}
 use Rattle.rewriting_theory.specs.Rule.{Rule}
 use Rattle.rewriting_theory.specs.ChosenForm.{Chosen}
 use Rattle.termination_theory.specs.Orientation.{NumberedRule, GiveRules, IsOrientation, IsFirstUnorientable}
 use Rattle.termination_theory.specs.Termination.{IsArgument, Descends}
-use Rattle.termination_theory.specs.OrderCases.{later_above, with_right, with_greatest, x, y}
+use Rattle.termination_theory.specs.OrderCases.{later_above, compared_from_right, with_greatest, x, y}
 
 -- a constant, an operation on one term and one on two terms, by their numbers
 abbrev pub constant : ℕ → Term
@@ -25,25 +25,27 @@ abbrev pub z : Term
 z = variable 2 0
 
 -- the equation number, with its sides in this order
-abbrev pub rule_of : ℕ → Term → Term → NumberedRule
-rule_of equation left right = record { equation = equation; rule = record { left = left; right = right } }
+abbrev pub rule_from_equation : ℕ → Term → Term → NumberedRule
+rule_from_equation equation left right = record { equation = equation; rule = record { left = left; right = right } }
 
 -- an equation by its sides
-abbrev pub sides : Term → Term → Equation
-sides left right = equation_of [] left right
+abbrev pub equation_with_sides : Term → Term → Equation
+equation_with_sides left right = example_equation [] left right
 
 -- ---- x + y = y + x and x = x, where + is the only operation
 
-abbrev pub sum : Term → Term → Term
-sum t u = on_two 0 t u
+abbrev pub sum_of_terms : Term → Term → Term
+sum_of_terms t u = on_two 0 t u
 
 -- neither side of the first equation is greater, by either status; the second one is dropped
 pub record CommutativeCases : Type 0 where
-  pub from_the_left : IsFirstUnorientable later_above (sides (sum x y) (sum y x) ∷ []) 0
-  pub from_the_right : IsFirstUnorientable (with_right 0) (sides (sum x y) (sum y x) ∷ []) 0
-  pub second_of_two : IsFirstUnorientable later_above (sides x x ∷ sides (sum x y) (sum y x) ∷ []) 1
-  pub identical : GiveRules later_above 0 (sides x x ∷ []) []
-  pub numbers_kept : GiveRules later_above 0 (sides x x ∷ sides (sum x x) x ∷ []) (rule_of 1 (sum x x) x ∷ [])
+  pub from_the_left : IsFirstUnorientable later_above (equation_with_sides (sum_of_terms x y) (sum_of_terms y x) ∷ []) 0
+  pub from_the_right : IsFirstUnorientable (compared_from_right 0) (equation_with_sides (sum_of_terms x y) (sum_of_terms y x) ∷ []) 0
+  pub second_of_two : IsFirstUnorientable later_above
+      (equation_with_sides x x ∷ equation_with_sides (sum_of_terms x y) (sum_of_terms y x) ∷ []) 1
+  pub identical : GiveRules later_above 0 (equation_with_sides x x ∷ []) []
+  pub numbers_kept : GiveRules later_above 0 (equation_with_sides x x ∷ equation_with_sides (sum_of_terms x x) x ∷ [])
+      (rule_from_equation 1 (sum_of_terms x x) x ∷ [])
 
 -- ---- 0, a (here the member) and +, with (x + y) + z = x + (y + z), x + 0 = x and 0 + x = x
 
@@ -58,7 +60,8 @@ add t u = on_two 2 t u
 
 abbrev pub group_equations : List Equation
 group_equations =
-    sides (add (add x y) z) (add x (add y z)) ∷ sides (add x zero_term) x ∷ sides (add zero_term x) x ∷ []
+    equation_with_sides (add (add x y) z) (add x (add y z)) ∷ equation_with_sides (add x zero_term) x
+    ∷ equation_with_sides (add zero_term x) x ∷ []
 
 abbrev pub to_the_right : List Rule
 to_the_right =
@@ -77,18 +80,18 @@ to_the_left =
 -- compared from the left, sums are grouped to the right, and the other way round
 pub record GroupCases : Type 0 where
   pub from_the_left : GiveRules later_above 0 group_equations
-      (rule_of 0 (add (add x y) z) (add x (add y z))
-      ∷ rule_of 1 (add x zero_term) x
-      ∷ rule_of 2 (add zero_term x) x
+      (rule_from_equation 0 (add (add x y) z) (add x (add y z))
+      ∷ rule_from_equation 1 (add x zero_term) x
+      ∷ rule_from_equation 2 (add zero_term x) x
       ∷ [])
   pub grouped_to_the_right : Chosen to_the_right (add (add member member) (add zero_term member)) (add member (add member member))
   pub zero_right : Chosen to_the_right (add member zero_term) member
   pub zero_left : Chosen to_the_right (add zero_term member) member
   pub zero_alone : Chosen to_the_right zero_term zero_term
-  pub from_the_right : GiveRules (with_right 2) 0 group_equations
-      (rule_of 0 (add x (add y z)) (add (add x y) z)
-      ∷ rule_of 1 (add x zero_term) x
-      ∷ rule_of 2 (add zero_term x) x
+  pub from_the_right : GiveRules (compared_from_right 2) 0 group_equations
+      (rule_from_equation 0 (add x (add y z)) (add (add x y) z)
+      ∷ rule_from_equation 1 (add x zero_term) x
+      ∷ rule_from_equation 2 (add zero_term x) x
       ∷ [])
   pub grouped_to_the_left : Chosen to_the_left (add (add member member) (add zero_term member)) (add (add member member) member)
 
@@ -96,8 +99,8 @@ pub record GroupCases : Type 0 where
 
 abbrev pub copied_equations : List Equation
 copied_equations =
-    sides (on_one 1 (on_one 1 (variable 0 0))) (on_one 1 (variable 0 0))
-    ∷ sides (on_one 3 (on_one 3 (variable 0 1))) (on_one 3 (variable 0 1))
+    equation_with_sides (on_one 1 (on_one 1 (variable 0 0))) (on_one 1 (variable 0 0))
+    ∷ equation_with_sides (on_one 3 (on_one 3 (variable 0 1))) (on_one 3 (variable 0 1))
     ∷ []
 
 abbrev pub copied_rules : List Rule
@@ -108,8 +111,8 @@ copied_rules =
 
 pub record CopiedCases : Type 0 where
   pub rules : GiveRules later_above 0 copied_equations
-      (rule_of 0 (on_one 1 (on_one 1 (variable 0 0))) (on_one 1 (variable 0 0))
-      ∷ rule_of 1 (on_one 3 (on_one 3 (variable 0 1))) (on_one 3 (variable 0 1))
+      (rule_from_equation 0 (on_one 1 (on_one 1 (variable 0 0))) (on_one 1 (variable 0 0))
+      ∷ rule_from_equation 1 (on_one 3 (on_one 3 (variable 0 1))) (on_one 3 (variable 0 1))
       ∷ [])
   pub copy : Chosen copied_rules (on_one 3 (on_one 3 (constant 2))) (on_one 3 (constant 2))
   pub first : Chosen copied_rules (on_one 1 (on_one 1 (on_one 1 (constant 0)))) (on_one 1 (constant 0))
@@ -118,18 +121,20 @@ pub record CopiedCases : Type 0 where
 
 -- the later operation is rewritten to the earlier one, unless the order puts the earlier one above
 pub record RankedCases : Type 0 where
-  pub as_declared : GiveRules later_above 0 (sides (on_one 1 x) (on_one 2 x) ∷ []) (rule_of 0 (on_one 2 x) (on_one 1 x) ∷ [])
+  pub as_declared : GiveRules later_above 0 (equation_with_sides (on_one 1 x) (on_one 2 x) ∷ [])
+      (rule_from_equation 0 (on_one 2 x) (on_one 1 x) ∷ [])
   pub to_the_earlier : Chosen (record { left = on_one 2 x; right = on_one 1 x } ∷ []) (on_one 2 (constant 0)) (on_one 1 (constant 0))
-  pub by_order : GiveRules (with_greatest 1 3) 0 (sides (on_one 1 x) (on_one 2 x) ∷ []) (rule_of 0 (on_one 1 x) (on_one 2 x) ∷ [])
+  pub by_order : GiveRules (with_greatest 1 3) 0 (equation_with_sides (on_one 1 x) (on_one 2 x) ∷ [])
+      (rule_from_equation 0 (on_one 1 x) (on_one 2 x) ∷ [])
   pub to_the_later : Chosen (record { left = on_one 1 x; right = on_one 2 x } ∷ []) (on_one 1 (constant 0)) (on_one 2 (constant 0))
 
 -- ---- a, s and f with f(x, s(y)) = f(y, y)
 
 -- only compared from the right can the equation be oriented
 pub record StatusCases : Type 0 where
-  pub from_the_left : IsFirstUnorientable later_above (sides (on_two 2 x (on_one 1 y)) (on_two 2 y y) ∷ []) 0
-  pub from_the_right : GiveRules (with_right 2) 0 (sides (on_two 2 x (on_one 1 y)) (on_two 2 y y) ∷ [])
-      (rule_of 0 (on_two 2 x (on_one 1 y)) (on_two 2 y y) ∷ [])
+  pub from_the_left : IsFirstUnorientable later_above (equation_with_sides (on_two 2 x (on_one 1 y)) (on_two 2 y y) ∷ []) 0
+  pub from_the_right : GiveRules (compared_from_right 2) 0 (equation_with_sides (on_two 2 x (on_one 1 y)) (on_two 2 y y) ∷ [])
+      (rule_from_equation 0 (on_two 2 x (on_one 1 y)) (on_two 2 y y) ∷ [])
   pub chosen : Chosen (record { left = on_two 2 x (on_one 1 y); right = on_two 2 y y } ∷ [])
       (on_two 2 (constant 0) (on_one 1 (constant 0))) (on_two 2 (constant 0) (constant 0))
 
@@ -143,8 +148,8 @@ addition_rules =
 
 pub record AdditionCases : Type 0 where
   pub rules : IsOrientation later_above natural_data
-      (rule_of 0 (plus nought x_natural) x_natural
-      ∷ rule_of 1 (plus (successor x_natural) y_natural) (successor (plus x_natural y_natural))
+      (rule_from_equation 0 (plus nought x_natural) x_natural
+      ∷ rule_from_equation 1 (plus (successor x_natural) y_natural) (successor (plus x_natural y_natural))
       ∷ [])
   -- 2 + 1 is 3
   pub sum_of_numbers : Chosen addition_rules (plus (successor (successor nought)) (successor nought))

@@ -6,7 +6,7 @@ use Rattle.std.proofs.lemmas.Bool.{and_parts}
 use Rattle.ll_engine.specs.declared.symbol.Symbol.{Symbol}
 use Rattle.ll_engine.specs.declared.symbol.Symbol.TheVariants.{Token, Part}
 use Rattle.ll_engine.specs.Derivation.{Production, Forest, empty, leaf, node, DerivesSymbols, leaves}
-use Rattle.ll_engine.specs.Fold.{folded, in_front, first_if, tree_begins_kept}
+use Rattle.ll_engine.specs.Fold.{folded_trees, in_front, first_if, tree_begins_kept}
 use Rattle.ll_engine.specs.Run.{count_parts}
 use Rattle.lotos_lexer.specs.declared.tokens.Token as lexer
 use Rattle.lotos_rows.specs.declared.row_names.RowName.{RowName}
@@ -63,13 +63,13 @@ numbered_holds limit text number row token parts m at n e =
 
 record Holds (limit : ℕ) (tree : Forest) (symbols : List Symbol) (tokens : List lexer.Token) (meanings : List Meaning) : Type 0 where
   pub count : length meanings ≡ count_parts symbols
-  pub kept : folded (numbered_row_depth limit) is_kept_kind tree tokens ≡ Some (map (depth_of limit) meanings)
+  pub kept : folded_trees (numbered_row_depth limit) is_kept_kind tree tokens ≡ Some (map (depth_of limit) meanings)
 
 more_parts : (n : ℕ) (count : ℕ) → n ≡ count → suc n ≡ count + 1
 more_parts n count e = omega arith
 
 holds : (limit : ℕ) (text : List ℕ) (tree : Forest) (symbols : List Symbol) (tokens : List lexer.Token) (meanings : List Meaning) →
-    DerivesSymbols rows tree symbols → folded (numbered_row_means text) is_kept_kind tree tokens ≡ Some meanings →
+    DerivesSymbols rows tree symbols → folded_trees (numbered_row_means text) is_kept_kind tree tokens ≡ Some meanings →
     Holds limit tree symbols tokens meanings
 holds limit text empty [] tokens meanings derives e =
     let none : [] ≡ meanings = cc (e) in
@@ -86,22 +86,22 @@ holds limit text (node number below rest) (Part p ∷ symbols) tokens meanings d
     let token = first_if (tree_begins_kept is_kept_kind below) own in
     let behind = drop (length (leaves below)) tokens in
     let split = in_front_some
-    (option_and_then (numbered_row_means text number token) (folded (numbered_row_means text) is_kept_kind below own))
-    (folded (numbered_row_means text) is_kept_kind rest behind) meanings e in
+    (option_and_then (numbered_row_means text number token) (folded_trees (numbered_row_means text) is_kept_kind below own))
+    (folded_trees (numbered_row_means text) is_kept_kind rest behind) meanings e in
     let first = split.0 in
     let after = split.1 in
-    let inside = and_then_some (folded (numbered_row_means text) is_kept_kind below own) (numbered_row_means text number token) first
+    let inside = and_then_some (folded_trees (numbered_row_means text) is_kept_kind below own) (numbered_row_means text number token) first
     split.2 in
     let under = holds limit text below derives.0.right own inside.0 derives.3 inside.1 in
     let next = holds limit text rest symbols behind after derives.4 split.3 in
-    let here : option_and_then (numbered_row_depth limit number token) (folded (numbered_row_depth limit) is_kept_kind below own)
+    let here : option_and_then (numbered_row_depth limit number token) (folded_trees (numbered_row_depth limit) is_kept_kind below own)
     ≡ Some (depth_of limit first) =
     ap (option_and_then (numbered_row_depth limit number token)) under.kept
     ∙ numbered_holds limit text number derives.0 token inside.0 first derives.1 under.count inside.2 in
     record {
       count = ap length split.4 ∙ more_parts (length after) (count_parts symbols) next.count;
       kept =
-          ap (λ it. in_front it (folded (numbered_row_depth limit) is_kept_kind rest behind)) here
+          ap (λ it. in_front it (folded_trees (numbered_row_depth limit) is_kept_kind rest behind)) here
           ∙ ap (in_front (Some (depth_of limit first))) next.kept
           ∙ ap (λ it. Some (map (depth_of limit) it)) (sym split.4);
     }

@@ -6,11 +6,11 @@ use Rattle.syntax_trees.specs.WrittenVariable.{WrittenVariable}
 use Rattle.syntax_trees.specs.WrittenEquation.{WrittenPremiss, WrittenEquation, WrittenGroup, WrittenEquations}
 use Rattle.syntax_trees.specs.WrittenItem.{WrittenOperation, WrittenPair, WrittenPairs, WrittenSections, WrittenTypeBody, WrittenItem}
 use Rattle.syntax_trees.specs.WrittenBehaviour.{WrittenGateChoice, WrittenExitValue, WrittenOffer, WrittenBehaviour}
-use Rattle.syntax_trees.specs.WrittenDefinition.{WrittenHeading, WrittenInner, WrittenSpecification}
+use Rattle.syntax_trees.specs.WrittenDefinition.{WrittenHeading, WrittenInner}
 use Rattle.syntax_trees.specs.Strength.{PlacedSign}
 use Rattle.lotos_rows.specs.Names.{NamedOperation, PlacedProfile}
-use Rattle.tree_building.specs.Meaning.{PlainStartedTerm, PlainConclusion, PlainAfterTerm, PlainAfterBase, PlainFlat, PlainActionEnd, PlainCallEnd, PlainValueChoiceEnd, PlainGateChoiceEnd, Meaning, a_name, some_names, some_variables, an_operation, some_named_operations, a_profile, maybe_name, maybe_profile, a_term, some_factors, some_terms, some_groups, some_equations, an_equation, a_conclusion, maybe_conclusion, after_term, a_premiss, maybe_term, some_pairs, both_pairs, an_item, some_items, a_body, after_base, some_sections, declared_operations, an_equation_section, some_operands, an_action, a_call, some_offers, some_exit_values, some_lets, some_gate_choices, a_value_choice, a_gate_choice, a_behaviour, a_sign, a_heading, a_functionality, some_inner, a_process, a_word, a_specification, some_order_items}
-use Rattle.tree_building.specs.Parts.{next_in, action_in, after_base_in, after_term_in, behaviour_in, body_in, both_pairs_in, call_in, conclusion_in, declared_operations_in, equation_in, equation_section_in, equations_in, exit_values_in, factors_in, functionality_in, gate_choice_in, gate_choices_in, groups_in, heading_in, inner_in, item_in, items_in, lets_in, maybe_conclusion_in, maybe_name_in, maybe_profile_in, maybe_term_in, name_in, names_in, offers_in, operands_in, operation_in, operations_in, order_items_in, pairs_in, premiss_in, process_in, profile_in, sections_in, sign_in, specification_in, term_in, terms_in, value_choice_in, variables_in, word_in}
+use Rattle.tree_building.specs.Meaning.{PlainStartedTerm, PlainConclusion, PlainAfterTerm, PlainAfterBase, PlainFlat, PlainActionEnd, PlainCallEnd, PlainValueChoiceEnd, PlainGateChoiceEnd, Meaning, a_name, some_names, some_variables, an_operation, some_named_operations, a_profile, maybe_name, maybe_profile, a_term, some_factors, some_terms, some_groups, some_equations, an_equation, a_conclusion, maybe_conclusion, after_term, a_premiss, maybe_term, some_pairs, both_pairs, an_item, some_items, a_body, after_base, some_sections, declared_operations, an_equation_section, some_operands, an_action, a_call, some_offers, some_exit_values, some_lets, some_gate_choices, a_value_choice, a_gate_choice, a_behaviour, a_sign, a_heading, a_functionality, some_inner, a_process, a_word, some_order_items}
+use Rattle.tree_building.specs.Parts.{next_in, meant_action, meant_after_base, meant_after_term, meant_behaviour, meant_body, meant_both_pairs, meant_call, meant_conclusion, meant_declared_operations, meant_equation, meant_equation_section, meant_equations, meant_exit_values, meant_factors, meant_functionality, meant_gate_choice, meant_gate_choices, meant_groups, meant_heading, meant_inner, meant_item, meant_items, meant_lets, meant_maybe_conclusion, meant_maybe_name, meant_maybe_profile, meant_maybe_term, meant_name, meant_names, meant_offers, meant_operands, meant_operation, meant_operations, meant_order_items, meant_pairs, meant_premiss, meant_process, meant_profile, meant_sections, meant_sign, meant_term, meant_terms, meant_value_choice, meant_variables, meant_word}
 use Rattle.tree_building.specs.BehavioursMeaning.{or_else}
 
 pub and_then_some : {A B : Type 0} (o : Option A) (k : A → Option B) (b : B) → option_and_then k o ≡ Some b →
@@ -95,195 +95,192 @@ shape6 parts p1 p2 p3 p4 p5 p6 r1 r2 r3 r4 r5 r6 e1 e2 e3 e4 e5 e6 n =
     let count : length parts ≡ length (p1 ∷ p2 ∷ p3 ∷ p4 ∷ p5 ∷ p6 ∷ r6) = ap length whole in
     whole ∙ ap (λ it. p1 ∷ p2 ∷ p3 ∷ p4 ∷ p5 ∷ p6 ∷ it) (shape0 r6 (omega arith))
 
-pub action_in_is : (part : Meaning) (value : PlainActionEnd) → action_in part ≡ Some value → part ≡ an_action value
+pub action_in_is : (part : Meaning) (value : PlainActionEnd) → meant_action part ≡ Some value → part ≡ an_action value
 action_in_is (an_action it) value e = let both : Some it ≡ Some value = e in ap an_action (cc)
 action_in_is _ value e = let none : None ≡ Some value = e in absurd (cc)
 
-pub after_base_in_is : (part : Meaning) (value : PlainAfterBase) → after_base_in part ≡ Some value → part ≡ after_base value
+pub after_base_in_is : (part : Meaning) (value : PlainAfterBase) → meant_after_base part ≡ Some value → part ≡ after_base value
 after_base_in_is (after_base it) value e = let both : Some it ≡ Some value = e in ap after_base (cc)
 after_base_in_is _ value e = let none : None ≡ Some value = e in absurd (cc)
 
-pub after_term_in_is : (part : Meaning) (value : PlainAfterTerm) → after_term_in part ≡ Some value → part ≡ after_term value
+pub after_term_in_is : (part : Meaning) (value : PlainAfterTerm) → meant_after_term part ≡ Some value → part ≡ after_term value
 after_term_in_is (after_term it) value e = let both : Some it ≡ Some value = e in ap after_term (cc)
 after_term_in_is _ value e = let none : None ≡ Some value = e in absurd (cc)
 
-pub behaviour_in_is : (part : Meaning) (value : WrittenBehaviour) → behaviour_in part ≡ Some value → part ≡ a_behaviour value
+pub behaviour_in_is : (part : Meaning) (value : WrittenBehaviour) → meant_behaviour part ≡ Some value → part ≡ a_behaviour value
 behaviour_in_is (a_behaviour it) value e = let both : Some it ≡ Some value = e in ap a_behaviour (cc)
 behaviour_in_is _ value e = let none : None ≡ Some value = e in absurd (cc)
 
-pub body_in_is : (part : Meaning) (value : WrittenTypeBody) → body_in part ≡ Some value → part ≡ a_body value
+pub body_in_is : (part : Meaning) (value : WrittenTypeBody) → meant_body part ≡ Some value → part ≡ a_body value
 body_in_is (a_body it) value e = let both : Some it ≡ Some value = e in ap a_body (cc)
 body_in_is _ value e = let none : None ≡ Some value = e in absurd (cc)
 
-pub both_pairs_in_is : (part : Meaning) (value : WrittenPairs) → both_pairs_in part ≡ Some value → part ≡ both_pairs value
+pub both_pairs_in_is : (part : Meaning) (value : WrittenPairs) → meant_both_pairs part ≡ Some value → part ≡ both_pairs value
 both_pairs_in_is (both_pairs it) value e = let both : Some it ≡ Some value = e in ap both_pairs (cc)
 both_pairs_in_is _ value e = let none : None ≡ Some value = e in absurd (cc)
 
-pub call_in_is : (part : Meaning) (value : PlainCallEnd) → call_in part ≡ Some value → part ≡ a_call value
+pub call_in_is : (part : Meaning) (value : PlainCallEnd) → meant_call part ≡ Some value → part ≡ a_call value
 call_in_is (a_call it) value e = let both : Some it ≡ Some value = e in ap a_call (cc)
 call_in_is _ value e = let none : None ≡ Some value = e in absurd (cc)
 
-pub conclusion_in_is : (part : Meaning) (value : PlainConclusion) → conclusion_in part ≡ Some value → part ≡ a_conclusion value
+pub conclusion_in_is : (part : Meaning) (value : PlainConclusion) → meant_conclusion part ≡ Some value → part ≡ a_conclusion value
 conclusion_in_is (a_conclusion it) value e = let both : Some it ≡ Some value = e in ap a_conclusion (cc)
 conclusion_in_is _ value e = let none : None ≡ Some value = e in absurd (cc)
 
-pub declared_operations_in_is : (part : Meaning) (value : (List WrittenOperation)) → declared_operations_in part ≡ Some value
+pub declared_operations_in_is : (part : Meaning) (value : (List WrittenOperation)) → meant_declared_operations part ≡ Some value
     → part ≡ declared_operations value
 declared_operations_in_is (declared_operations it) value e = let both : Some it ≡ Some value = e in ap declared_operations (cc)
 declared_operations_in_is _ value e = let none : None ≡ Some value = e in absurd (cc)
 
-pub equation_in_is : (part : Meaning) (value : WrittenEquation) → equation_in part ≡ Some value → part ≡ an_equation value
+pub equation_in_is : (part : Meaning) (value : WrittenEquation) → meant_equation part ≡ Some value → part ≡ an_equation value
 equation_in_is (an_equation it) value e = let both : Some it ≡ Some value = e in ap an_equation (cc)
 equation_in_is _ value e = let none : None ≡ Some value = e in absurd (cc)
 
-pub equation_section_in_is : (part : Meaning) (value : WrittenEquations) → equation_section_in part ≡ Some value
+pub equation_section_in_is : (part : Meaning) (value : WrittenEquations) → meant_equation_section part ≡ Some value
     → part ≡ an_equation_section value
 equation_section_in_is (an_equation_section it) value e = let both : Some it ≡ Some value = e in ap an_equation_section (cc)
 equation_section_in_is _ value e = let none : None ≡ Some value = e in absurd (cc)
 
-pub equations_in_is : (part : Meaning) (value : (List WrittenEquation)) → equations_in part ≡ Some value → part ≡ some_equations value
+pub equations_in_is : (part : Meaning) (value : (List WrittenEquation)) → meant_equations part ≡ Some value → part ≡ some_equations value
 equations_in_is (some_equations it) value e = let both : Some it ≡ Some value = e in ap some_equations (cc)
 equations_in_is _ value e = let none : None ≡ Some value = e in absurd (cc)
 
-pub exit_values_in_is : (part : Meaning) (value : (List WrittenExitValue)) → exit_values_in part ≡ Some value
+pub exit_values_in_is : (part : Meaning) (value : (List WrittenExitValue)) → meant_exit_values part ≡ Some value
     → part ≡ some_exit_values value
 exit_values_in_is (some_exit_values it) value e = let both : Some it ≡ Some value = e in ap some_exit_values (cc)
 exit_values_in_is _ value e = let none : None ≡ Some value = e in absurd (cc)
 
-pub factors_in_is : (part : Meaning) (value : (List (PlacedName × WrittenTerm))) → factors_in part ≡ Some value → part ≡ some_factors value
+pub factors_in_is : (part : Meaning) (value : (List (PlacedName × WrittenTerm))) → meant_factors part ≡ Some value
+    → part ≡ some_factors value
 factors_in_is (some_factors it) value e = let both : Some it ≡ Some value = e in ap some_factors (cc)
 factors_in_is _ value e = let none : None ≡ Some value = e in absurd (cc)
 
-pub functionality_in_is : (part : Meaning) (value : (Option (List PlacedName))) → functionality_in part ≡ Some value
+pub functionality_in_is : (part : Meaning) (value : (Option (List PlacedName))) → meant_functionality part ≡ Some value
     → part ≡ a_functionality value
 functionality_in_is (a_functionality it) value e = let both : Some it ≡ Some value = e in ap a_functionality (cc)
 functionality_in_is _ value e = let none : None ≡ Some value = e in absurd (cc)
 
-pub gate_choice_in_is : (part : Meaning) (value : PlainGateChoiceEnd) → gate_choice_in part ≡ Some value → part ≡ a_gate_choice value
+pub gate_choice_in_is : (part : Meaning) (value : PlainGateChoiceEnd) → meant_gate_choice part ≡ Some value → part ≡ a_gate_choice value
 gate_choice_in_is (a_gate_choice it) value e = let both : Some it ≡ Some value = e in ap a_gate_choice (cc)
 gate_choice_in_is _ value e = let none : None ≡ Some value = e in absurd (cc)
 
-pub gate_choices_in_is : (part : Meaning) (value : (List WrittenGateChoice)) → gate_choices_in part ≡ Some value
+pub gate_choices_in_is : (part : Meaning) (value : (List WrittenGateChoice)) → meant_gate_choices part ≡ Some value
     → part ≡ some_gate_choices value
 gate_choices_in_is (some_gate_choices it) value e = let both : Some it ≡ Some value = e in ap some_gate_choices (cc)
 gate_choices_in_is _ value e = let none : None ≡ Some value = e in absurd (cc)
 
-pub groups_in_is : (part : Meaning) (value : (List WrittenGroup)) → groups_in part ≡ Some value → part ≡ some_groups value
+pub groups_in_is : (part : Meaning) (value : (List WrittenGroup)) → meant_groups part ≡ Some value → part ≡ some_groups value
 groups_in_is (some_groups it) value e = let both : Some it ≡ Some value = e in ap some_groups (cc)
 groups_in_is _ value e = let none : None ≡ Some value = e in absurd (cc)
 
-pub heading_in_is : (part : Meaning) (value : WrittenHeading) → heading_in part ≡ Some value → part ≡ a_heading value
+pub heading_in_is : (part : Meaning) (value : WrittenHeading) → meant_heading part ≡ Some value → part ≡ a_heading value
 heading_in_is (a_heading it) value e = let both : Some it ≡ Some value = e in ap a_heading (cc)
 heading_in_is _ value e = let none : None ≡ Some value = e in absurd (cc)
 
-pub inner_in_is : (part : Meaning) (value : (List WrittenInner)) → inner_in part ≡ Some value → part ≡ some_inner value
+pub inner_in_is : (part : Meaning) (value : (List WrittenInner)) → meant_inner part ≡ Some value → part ≡ some_inner value
 inner_in_is (some_inner it) value e = let both : Some it ≡ Some value = e in ap some_inner (cc)
 inner_in_is _ value e = let none : None ≡ Some value = e in absurd (cc)
 
-pub item_in_is : (part : Meaning) (value : WrittenItem) → item_in part ≡ Some value → part ≡ an_item value
+pub item_in_is : (part : Meaning) (value : WrittenItem) → meant_item part ≡ Some value → part ≡ an_item value
 item_in_is (an_item it) value e = let both : Some it ≡ Some value = e in ap an_item (cc)
 item_in_is _ value e = let none : None ≡ Some value = e in absurd (cc)
 
-pub items_in_is : (part : Meaning) (value : (List WrittenItem)) → items_in part ≡ Some value → part ≡ some_items value
+pub items_in_is : (part : Meaning) (value : (List WrittenItem)) → meant_items part ≡ Some value → part ≡ some_items value
 items_in_is (some_items it) value e = let both : Some it ≡ Some value = e in ap some_items (cc)
 items_in_is _ value e = let none : None ≡ Some value = e in absurd (cc)
 
-pub lets_in_is : (part : Meaning) (value : (List (WrittenVariable × WrittenTerm))) → lets_in part ≡ Some value → part ≡ some_lets value
+pub lets_in_is : (part : Meaning) (value : (List (WrittenVariable × WrittenTerm))) → meant_lets part ≡ Some value → part ≡ some_lets value
 lets_in_is (some_lets it) value e = let both : Some it ≡ Some value = e in ap some_lets (cc)
 lets_in_is _ value e = let none : None ≡ Some value = e in absurd (cc)
 
-pub maybe_conclusion_in_is : (part : Meaning) (value : (Option PlainConclusion)) → maybe_conclusion_in part ≡ Some value
+pub maybe_conclusion_in_is : (part : Meaning) (value : (Option PlainConclusion)) → meant_maybe_conclusion part ≡ Some value
     → part ≡ maybe_conclusion value
 maybe_conclusion_in_is (maybe_conclusion it) value e = let both : Some it ≡ Some value = e in ap maybe_conclusion (cc)
 maybe_conclusion_in_is _ value e = let none : None ≡ Some value = e in absurd (cc)
 
-pub maybe_name_in_is : (part : Meaning) (value : (Option PlacedName)) → maybe_name_in part ≡ Some value → part ≡ maybe_name value
+pub maybe_name_in_is : (part : Meaning) (value : (Option PlacedName)) → meant_maybe_name part ≡ Some value → part ≡ maybe_name value
 maybe_name_in_is (maybe_name it) value e = let both : Some it ≡ Some value = e in ap maybe_name (cc)
 maybe_name_in_is _ value e = let none : None ≡ Some value = e in absurd (cc)
 
-pub maybe_profile_in_is : (part : Meaning) (value : (Option PlacedProfile)) → maybe_profile_in part ≡ Some value
+pub maybe_profile_in_is : (part : Meaning) (value : (Option PlacedProfile)) → meant_maybe_profile part ≡ Some value
     → part ≡ maybe_profile value
 maybe_profile_in_is (maybe_profile it) value e = let both : Some it ≡ Some value = e in ap maybe_profile (cc)
 maybe_profile_in_is _ value e = let none : None ≡ Some value = e in absurd (cc)
 
-pub maybe_term_in_is : (part : Meaning) (value : (Option WrittenTerm)) → maybe_term_in part ≡ Some value → part ≡ maybe_term value
+pub maybe_term_in_is : (part : Meaning) (value : (Option WrittenTerm)) → meant_maybe_term part ≡ Some value → part ≡ maybe_term value
 maybe_term_in_is (maybe_term it) value e = let both : Some it ≡ Some value = e in ap maybe_term (cc)
 maybe_term_in_is _ value e = let none : None ≡ Some value = e in absurd (cc)
 
-pub name_in_is : (part : Meaning) (value : PlacedName) → name_in part ≡ Some value → part ≡ a_name value
+pub name_in_is : (part : Meaning) (value : PlacedName) → meant_name part ≡ Some value → part ≡ a_name value
 name_in_is (a_name it) value e = let both : Some it ≡ Some value = e in ap a_name (cc)
 name_in_is _ value e = let none : None ≡ Some value = e in absurd (cc)
 
-pub names_in_is : (part : Meaning) (value : (List PlacedName)) → names_in part ≡ Some value → part ≡ some_names value
+pub names_in_is : (part : Meaning) (value : (List PlacedName)) → meant_names part ≡ Some value → part ≡ some_names value
 names_in_is (some_names it) value e = let both : Some it ≡ Some value = e in ap some_names (cc)
 names_in_is _ value e = let none : None ≡ Some value = e in absurd (cc)
 
-pub offers_in_is : (part : Meaning) (value : (List WrittenOffer)) → offers_in part ≡ Some value → part ≡ some_offers value
+pub offers_in_is : (part : Meaning) (value : (List WrittenOffer)) → meant_offers part ≡ Some value → part ≡ some_offers value
 offers_in_is (some_offers it) value e = let both : Some it ≡ Some value = e in ap some_offers (cc)
 offers_in_is _ value e = let none : None ≡ Some value = e in absurd (cc)
 
-pub operands_in_is : (part : Meaning) (value : PlainFlat) → operands_in part ≡ Some value → part ≡ some_operands value
+pub operands_in_is : (part : Meaning) (value : PlainFlat) → meant_operands part ≡ Some value → part ≡ some_operands value
 operands_in_is (some_operands it) value e = let both : Some it ≡ Some value = e in ap some_operands (cc)
 operands_in_is _ value e = let none : None ≡ Some value = e in absurd (cc)
 
-pub operation_in_is : (part : Meaning) (value : NamedOperation) → operation_in part ≡ Some value → part ≡ an_operation value
+pub operation_in_is : (part : Meaning) (value : NamedOperation) → meant_operation part ≡ Some value → part ≡ an_operation value
 operation_in_is (an_operation it) value e = let both : Some it ≡ Some value = e in ap an_operation (cc)
 operation_in_is _ value e = let none : None ≡ Some value = e in absurd (cc)
 
-pub operations_in_is : (part : Meaning) (value : (List NamedOperation)) → operations_in part ≡ Some value
+pub operations_in_is : (part : Meaning) (value : (List NamedOperation)) → meant_operations part ≡ Some value
     → part ≡ some_named_operations value
 operations_in_is (some_named_operations it) value e = let both : Some it ≡ Some value = e in ap some_named_operations (cc)
 operations_in_is _ value e = let none : None ≡ Some value = e in absurd (cc)
 
-pub order_items_in_is : (part : Meaning) (value : (List ListedOperation)) → order_items_in part ≡ Some value → part ≡ some_order_items value
+pub order_items_in_is : (part : Meaning) (value : (List ListedOperation)) → meant_order_items part ≡ Some value
+    → part ≡ some_order_items value
 order_items_in_is (some_order_items it) value e = let both : Some it ≡ Some value = e in ap some_order_items (cc)
 order_items_in_is _ value e = let none : None ≡ Some value = e in absurd (cc)
 
-pub pairs_in_is : (part : Meaning) (value : (List WrittenPair)) → pairs_in part ≡ Some value → part ≡ some_pairs value
+pub pairs_in_is : (part : Meaning) (value : (List WrittenPair)) → meant_pairs part ≡ Some value → part ≡ some_pairs value
 pairs_in_is (some_pairs it) value e = let both : Some it ≡ Some value = e in ap some_pairs (cc)
 pairs_in_is _ value e = let none : None ≡ Some value = e in absurd (cc)
 
-pub premiss_in_is : (part : Meaning) (value : WrittenPremiss) → premiss_in part ≡ Some value → part ≡ a_premiss value
+pub premiss_in_is : (part : Meaning) (value : WrittenPremiss) → meant_premiss part ≡ Some value → part ≡ a_premiss value
 premiss_in_is (a_premiss it) value e = let both : Some it ≡ Some value = e in ap a_premiss (cc)
 premiss_in_is _ value e = let none : None ≡ Some value = e in absurd (cc)
 
-pub process_in_is : (part : Meaning) (value : WrittenInner) → process_in part ≡ Some value → part ≡ a_process value
+pub process_in_is : (part : Meaning) (value : WrittenInner) → meant_process part ≡ Some value → part ≡ a_process value
 process_in_is (a_process it) value e = let both : Some it ≡ Some value = e in ap a_process (cc)
 process_in_is _ value e = let none : None ≡ Some value = e in absurd (cc)
 
-pub profile_in_is : (part : Meaning) (value : PlacedProfile) → profile_in part ≡ Some value → part ≡ a_profile value
+pub profile_in_is : (part : Meaning) (value : PlacedProfile) → meant_profile part ≡ Some value → part ≡ a_profile value
 profile_in_is (a_profile it) value e = let both : Some it ≡ Some value = e in ap a_profile (cc)
 profile_in_is _ value e = let none : None ≡ Some value = e in absurd (cc)
 
-pub sections_in_is : (part : Meaning) (value : WrittenSections) → sections_in part ≡ Some value → part ≡ some_sections value
+pub sections_in_is : (part : Meaning) (value : WrittenSections) → meant_sections part ≡ Some value → part ≡ some_sections value
 sections_in_is (some_sections it) value e = let both : Some it ≡ Some value = e in ap some_sections (cc)
 sections_in_is _ value e = let none : None ≡ Some value = e in absurd (cc)
 
-pub sign_in_is : (part : Meaning) (value : PlacedSign) → sign_in part ≡ Some value → part ≡ a_sign value
+pub sign_in_is : (part : Meaning) (value : PlacedSign) → meant_sign part ≡ Some value → part ≡ a_sign value
 sign_in_is (a_sign it) value e = let both : Some it ≡ Some value = e in ap a_sign (cc)
 sign_in_is _ value e = let none : None ≡ Some value = e in absurd (cc)
 
-pub specification_in_is : (part : Meaning) (value : WrittenSpecification) → specification_in part ≡ Some value
-    → part ≡ a_specification value
-specification_in_is (a_specification it) value e = let both : Some it ≡ Some value = e in ap a_specification (cc)
-specification_in_is _ value e = let none : None ≡ Some value = e in absurd (cc)
-
-pub term_in_is : (part : Meaning) (value : PlainStartedTerm) → term_in part ≡ Some value → part ≡ a_term value
+pub term_in_is : (part : Meaning) (value : PlainStartedTerm) → meant_term part ≡ Some value → part ≡ a_term value
 term_in_is (a_term it) value e = let both : Some it ≡ Some value = e in ap a_term (cc)
 term_in_is _ value e = let none : None ≡ Some value = e in absurd (cc)
 
-pub terms_in_is : (part : Meaning) (value : (List WrittenTerm)) → terms_in part ≡ Some value → part ≡ some_terms value
+pub terms_in_is : (part : Meaning) (value : (List WrittenTerm)) → meant_terms part ≡ Some value → part ≡ some_terms value
 terms_in_is (some_terms it) value e = let both : Some it ≡ Some value = e in ap some_terms (cc)
 terms_in_is _ value e = let none : None ≡ Some value = e in absurd (cc)
 
-pub value_choice_in_is : (part : Meaning) (value : PlainValueChoiceEnd) → value_choice_in part ≡ Some value → part ≡ a_value_choice value
+pub value_choice_in_is : (part : Meaning) (value : PlainValueChoiceEnd) → meant_value_choice part ≡ Some value → part ≡ a_value_choice value
 value_choice_in_is (a_value_choice it) value e = let both : Some it ≡ Some value = e in ap a_value_choice (cc)
 value_choice_in_is _ value e = let none : None ≡ Some value = e in absurd (cc)
 
-pub variables_in_is : (part : Meaning) (value : (List WrittenVariable)) → variables_in part ≡ Some value → part ≡ some_variables value
+pub variables_in_is : (part : Meaning) (value : (List WrittenVariable)) → meant_variables part ≡ Some value → part ≡ some_variables value
 variables_in_is (some_variables it) value e = let both : Some it ≡ Some value = e in ap some_variables (cc)
 variables_in_is _ value e = let none : None ≡ Some value = e in absurd (cc)
 
-pub word_in_is : (part : Meaning) (value : (Unit {0})) → word_in part ≡ Some value → part ≡ a_word value
+pub word_in_is : (part : Meaning) (value : (Unit {0})) → meant_word part ≡ Some value → part ≡ a_word value
 word_in_is (a_word it) value e = let both : Some it ≡ Some value = e in ap a_word (cc)
 word_in_is _ value e = let none : None ≡ Some value = e in absurd (cc)

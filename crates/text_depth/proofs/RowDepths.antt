@@ -26,7 +26,7 @@ use Rattle.syntax_trees.specs.WrittenBehaviour.{choice_sign, interleaving, full_
 use Rattle.tree_building.specs.Meaning.{Meaning}
 use Rattle.tree_building.specs.RowMeaning.{names_row_means, terms_row_means, types_row_means, equations_row_means, renamings_row_means, behaviours_row_means, definitions_row_means, specification_row_means, starts_row_means, row_means}
 use Rattle.text_depth.specs.DepthPart.{depth_of}
-use Rattle.text_depth.specs.RowDepth.{closing, names_row_depth, terms_row_depth, types_row_depth, equations_row_depth, behaviours_row_depth, definitions_row_depth, starts_row_depth, row_depth}
+use Rattle.text_depth.specs.RowDepth.{closing_parts, names_row_depth, terms_row_depth, types_row_depth, equations_row_depth, behaviours_row_depth, definitions_row_depth, starts_row_depth, row_depth}
 use Rattle.text_depth.proofs.NamesDepths.{infix_operation_is, name_alone_is, name_before_names_is, no_names_is, no_variables_is, prefix_operation_is, profile_of_names_is, same_name_is, same_names_is, same_variables_is, token_named_is, variables_before_variables_is}
 use Rattle.text_depth.proofs.DefinitionsDepths.{exit_of_sorts_is, heading_of_parts_is, item_before_inner_is, no_exit_is, nothing_inner_is, process_before_inner_is, process_of_parts_is, same_inner_is}
 use Rattle.text_depth.proofs.TypesDepths.{actualisation_after_base_is, equation_section_is, extension_after_base_is, item_before_items_is, library_item_is, line_before_lines_is, named_body_is, no_equation_section_is, no_items_is, no_more_operations_is, no_operations_declared_is, operation_before_operations_is, renaming_after_base_is, same_items_is, same_operations_declared_is, sections_body_is, sections_of_parts_is, type_item_is}
@@ -227,7 +227,7 @@ renamings_arity renaming_row.MoreOperationPairs = 1
 
 renamings_hold : (limit : ℕ) (row : RenamingsRow) (token : Option Token) (parts : List Meaning) (m : Meaning)
     → length parts ≡ renamings_arity row →
-    renamings_row_means row token parts ≡ Some m → closing limit (map (depth_of limit) parts) ≡ Some (depth_of limit m)
+    renamings_row_means row token parts ≡ Some m → closing_parts limit (map (depth_of limit) parts) ≡ Some (depth_of limit m)
 renamings_hold limit renaming_row.Renames token parts m n e = pairs_of_both_is limit parts m n e
 renamings_hold limit renaming_row.NoSortRenames token parts m n e = no_pairs_is limit parts m n e
 renamings_hold limit renaming_row.SortRenames token parts m n e = same_pairs_is limit parts m n e
@@ -377,7 +377,7 @@ specification_arity specification_row.BehaviorWord = 0
 
 specification_hold : (limit : ℕ) (row : SpecificationRow) (token : Option Token) (parts : List Meaning) (m : Meaning)
     → length parts ≡ specification_arity row →
-    specification_row_means row token parts ≡ Some m → closing limit (map (depth_of limit) parts) ≡ Some (depth_of limit m)
+    specification_row_means row token parts ≡ Some m → closing_parts limit (map (depth_of limit) parts) ≡ Some (depth_of limit m)
 specification_hold limit specification_row.NoItems token parts m n e = no_items_is limit parts m n e
 specification_hold limit specification_row.Items token parts m n e = item_before_items_is limit parts m n e
 specification_hold limit specification_row.BehaviourWord token parts m n e = a_behaviour_word_is limit parts m n e

@@ -21,7 +21,7 @@ use Rattle.lotos_rows.specs.declared.starts.StartsRow.{StartsRow}
 use Rattle.lotos_rows.specs.declared.starts.StartsRow.TheVariants as start_row
 use Rattle.lotos_rows.specs.Rows.{row_names}
 use Rattle.syntax_trees.specs.Grouping.{grouped}
-use Rattle.syntax_trees.specs.Firsts.{Firsts, first_from, no_nodes, everywhere, followed, below, between}
+use Rattle.syntax_trees.specs.Firsts.{Firsts, first_from, no_nodes, everywhere, firsts_followed, firsts_below, firsts_between}
 use Rattle.syntax_trees.specs.TreeFirsts.{names_firsts}
 use Rattle.text_depth.specs.DepthPart.{DepthPart, of_names, of_firsts, of_flat, of_choice, before_first_operand}
 
@@ -31,27 +31,27 @@ or_no_nodes (Some firsts) = firsts
 
 -- the first nodes of the tree of a flat list
 abbrev pub grouped_firsts : DepthPart → Firsts
-grouped_firsts part = or_no_nodes (grouped (λ strength. strength) (λ strength. between) part.operands part.strengths)
+grouped_firsts part = or_no_nodes (grouped (λ strength. strength) (λ strength. firsts_between) part.operands part.strengths)
 
 -- of a tree that counts from its own root: its first node that is too deep
-abbrev pub closed : ℕ → Firsts → Firsts
-closed limit firsts = everywhere (first_from firsts limit)
+abbrev pub closed_firsts : ℕ → Firsts → Firsts
+closed_firsts limit firsts = everywhere (first_from firsts limit)
 
 abbrev pub closed_part : ℕ → DepthPart → Firsts
-closed_part limit part = closed limit (followed part.firsts (grouped_firsts part))
+closed_part limit part = closed_firsts limit (firsts_followed part.firsts (grouped_firsts part))
 
 abbrev pub closed_parts : ℕ → List DepthPart → Firsts
 closed_parts limit [] = no_nodes
-closed_parts limit (part ∷ parts) = followed (closed_part limit part) (closed_parts limit parts)
+closed_parts limit (part ∷ parts) = firsts_followed (closed_part limit part) (closed_parts limit parts)
 
 -- parts each of which counts from its own root
-abbrev pub closing : ℕ → List DepthPart → Option DepthPart
-closing limit parts = Some (of_firsts (closed_parts limit parts))
+abbrev pub closing_parts : ℕ → List DepthPart → Option DepthPart
+closing_parts limit parts = Some (of_firsts (closed_parts limit parts))
 
-abbrev pub both : DepthPart → DepthPart → DepthPart
-both some others = record {
+abbrev pub both_depth_parts : DepthPart → DepthPart → DepthPart
+both_depth_parts some others = record {
   names = some.names ++ others.names;
-  firsts = followed some.firsts others.firsts;
+  firsts = firsts_followed some.firsts others.firsts;
   operands = some.operands ++ others.operands;
   strengths = some.strengths ++ others.strengths;
 }
@@ -60,10 +60,10 @@ both some others = record {
 abbrev pub joined_parts : List DepthPart → DepthPart
 joined_parts [] = of_names []
 joined_parts (part ∷ []) = part
-joined_parts (part ∷ next ∷ parts) = both part (joined_parts (next ∷ parts))
+joined_parts (part ∷ next ∷ parts) = both_depth_parts part (joined_parts (next ∷ parts))
 
-abbrev pub together : List DepthPart → Option DepthPart
-together parts = Some (joined_parts parts)
+abbrev pub parts_together : List DepthPart → Option DepthPart
+parts_together parts = Some (joined_parts parts)
 
 abbrev pub at_token : Option Token → (Place → Option DepthPart) → Option DepthPart
 at_token None next = None
@@ -78,12 +78,12 @@ token_name token = at_token token (λ place. Some (of_names (place ∷ [])))
 
 -- two lists with one name between them, or a list of names
 abbrev pub around_middle : List DepthPart → Option DepthPart
-around_middle (first ∷ middle ∷ last ∷ others) = Some (both first last)
+around_middle (first ∷ middle ∷ last ∷ others) = Some (both_depth_parts first last)
 around_middle _ = None
 
 -- a term of its factors
 abbrev pub left_grouped : List DepthPart → Option DepthPart
-left_grouped (first ∷ more ∷ others) = Some (of_firsts (fold between first.firsts more.operands))
+left_grouped (first ∷ more ∷ others) = Some (of_firsts (fold firsts_between first.firsts more.operands))
 left_grouped _ = None
 
 -- an operation, a factor, and more of them
@@ -93,7 +93,7 @@ factor_first _ = None
 
 -- a name with its arguments
 abbrev pub applied_name : List DepthPart → Option DepthPart
-applied_name (name ∷ arguments ∷ mark ∷ others) = at_name name (λ place. Some (of_firsts (below place arguments.firsts)))
+applied_name (name ∷ arguments ∷ mark ∷ others) = at_name name (λ place. Some (of_firsts (firsts_below place arguments.firsts)))
 applied_name _ = None
 
 -- a term in brackets
@@ -107,7 +107,7 @@ one_operand operand = Some (of_flat (operand ∷ []) [])
 -- a word, names or values, and a behaviour
 abbrev pub word_form : Option Token → List DepthPart → Option DepthPart
 word_form token (before ∷ inside ∷ others) = at_token token
-    (λ place. one_operand (below place (followed before.firsts (grouped_firsts inside))))
+    (λ place. one_operand (firsts_below place (firsts_followed before.firsts (grouped_firsts inside))))
 word_form token _ = None
 
 -- `choice`: names, and the rest of it
@@ -122,14 +122,14 @@ par_form _ = None
 
 abbrev pub below_first : Place → List Firsts → List Firsts
 below_first place [] = []
-below_first place (first ∷ others) = below place first ∷ others
+below_first place (first ∷ others) = firsts_below place first ∷ others
 
 -- a node in front of the first operand
-abbrev pub in_front : Place → DepthPart → Option DepthPart
-in_front place flat = Some (of_flat (below_first place flat.operands) flat.strengths)
+abbrev pub node_in_front : Place → DepthPart → Option DepthPart
+node_in_front place flat = Some (of_flat (below_first place flat.operands) flat.strengths)
 
 abbrev pub inner_prefix : Option Token → List DepthPart → Option DepthPart
-inner_prefix token (flat ∷ others) = at_token token (λ place. in_front place flat)
+inner_prefix token (flat ∷ others) = at_token token (λ place. node_in_front place flat)
 inner_prefix token _ = None
 
 -- a premiss before a flat list, or offers before an action
@@ -141,27 +141,27 @@ terms_before (terms ∷ flat ∷ others) = Some (with_terms_before terms flat)
 terms_before _ = None
 
 abbrev pub guard_prefix : Option Token → List DepthPart → Option DepthPart
-guard_prefix token (test ∷ flat ∷ others) = at_token token (λ place. in_front place (with_terms_before test flat))
+guard_prefix token (test ∷ flat ∷ others) = at_token token (λ place. node_in_front place (with_terms_before test flat))
 guard_prefix token _ = None
 
 -- a gate or a process, and what stands behind it
 abbrev pub named_first : List DepthPart → Option DepthPart
-named_first (name ∷ end ∷ others) = at_name name (λ place. in_front place end)
+named_first (name ∷ end ∷ others) = at_name name (λ place. node_in_front place end)
 named_first _ = None
 
 abbrev pub first_operand : Firsts → DepthPart → Option DepthPart
 first_operand operand tail = Some (of_flat (operand ∷ tail.operands) tail.strengths)
 
 abbrev pub call_end : ℕ → List DepthPart → Option DepthPart
-call_end limit (gates ∷ values ∷ tail ∷ others) = first_operand (closed limit values.firsts) tail
+call_end limit (gates ∷ values ∷ tail ∷ others) = first_operand (closed_firsts limit values.firsts) tail
 call_end limit _ = None
 
 abbrev pub stop_first : Option Token → List DepthPart → Option DepthPart
-stop_first token (tail ∷ others) = at_token token (λ place. first_operand (below place no_nodes) tail)
+stop_first token (tail ∷ others) = at_token token (λ place. first_operand (firsts_below place no_nodes) tail)
 stop_first token _ = None
 
 abbrev pub exit_first : Option Token → List DepthPart → Option DepthPart
-exit_first token (values ∷ tail ∷ others) = at_token token (λ place. first_operand (below place values.firsts) tail)
+exit_first token (values ∷ tail ∷ others) = at_token token (λ place. first_operand (firsts_below place values.firsts) tail)
 exit_first token _ = None
 
 abbrev pub bracket_first : List DepthPart → Option DepthPart
@@ -184,29 +184,29 @@ names_row_depth limit name_row.Name token parts = token_name token
 names_row_depth limit name_row.DigitName token parts = token_name token
 names_row_depth limit name_row.SignName token parts = token_name token
 names_row_depth limit name_row.Variables token parts = around_middle parts
-names_row_depth limit name_row.PrefixOperation token parts = closing limit parts
-names_row_depth limit name_row.InfixOperation token parts = closing limit parts
-names_row_depth limit name_row.Profile token parts = closing limit parts
-names_row_depth limit other token parts = together parts
+names_row_depth limit name_row.PrefixOperation token parts = closing_parts limit parts
+names_row_depth limit name_row.InfixOperation token parts = closing_parts limit parts
+names_row_depth limit name_row.Profile token parts = closing_parts limit parts
+names_row_depth limit other token parts = parts_together parts
 
 abbrev pub terms_row_depth : TermsRow → Option Token → List DepthPart → Option DepthPart
 terms_row_depth term_row.Term token parts = left_grouped parts
 terms_row_depth term_row.MoreFactors token parts = factor_first parts
 terms_row_depth term_row.AppliedFactor token parts = applied_name parts
 terms_row_depth term_row.BracketedFactor token parts = bracketed_term parts
-terms_row_depth other token parts = together parts
+terms_row_depth other token parts = parts_together parts
 
 abbrev pub types_row_depth : ℕ → TypesRow → List DepthPart → Option DepthPart
-types_row_depth limit type_row.NoFormalSorts parts = together parts
-types_row_depth limit type_row.FormalSorts parts = together parts
-types_row_depth limit type_row.NoSorts parts = together parts
-types_row_depth limit type_row.Sorts parts = together parts
-types_row_depth limit other parts = closing limit parts
+types_row_depth limit type_row.NoFormalSorts parts = parts_together parts
+types_row_depth limit type_row.FormalSorts parts = parts_together parts
+types_row_depth limit type_row.NoSorts parts = parts_together parts
+types_row_depth limit type_row.Sorts parts = parts_together parts
+types_row_depth limit other parts = closing_parts limit parts
 
 abbrev pub equations_row_depth : ℕ → EquationsRow → List DepthPart → Option DepthPart
-equations_row_depth limit equation_row.NoVariablesForAll parts = together parts
-equations_row_depth limit equation_row.VariablesForAll parts = together parts
-equations_row_depth limit other parts = closing limit parts
+equations_row_depth limit equation_row.NoVariablesForAll parts = parts_together parts
+equations_row_depth limit equation_row.VariablesForAll parts = parts_together parts
+equations_row_depth limit other parts = closing_parts limit parts
 
 abbrev pub behaviours_row_depth : ℕ → BehavioursRow → Option Token → List DepthPart → Option DepthPart
 behaviours_row_depth limit behaviour_row.Hide token parts = word_form token parts
@@ -219,42 +219,42 @@ behaviours_row_depth limit behaviour_row.NameFirst token parts = named_first par
 behaviours_row_depth limit behaviour_row.Stop token parts = stop_first token parts
 behaviours_row_depth limit behaviour_row.Exit token parts = exit_first token parts
 behaviours_row_depth limit behaviour_row.BracketedBehaviour token parts = bracket_first parts
-behaviours_row_depth limit behaviour_row.NoBehaviourTail token parts = together parts
-behaviours_row_depth limit behaviour_row.BehaviourTail token parts = together parts
-behaviours_row_depth limit behaviour_row.ActionWithoutOffers token parts = together parts
+behaviours_row_depth limit behaviour_row.NoBehaviourTail token parts = parts_together parts
+behaviours_row_depth limit behaviour_row.BehaviourTail token parts = parts_together parts
+behaviours_row_depth limit behaviour_row.ActionWithoutOffers token parts = parts_together parts
 behaviours_row_depth limit behaviour_row.ActionWithOffers token parts = terms_before parts
 behaviours_row_depth limit behaviour_row.Call token parts = call_end limit parts
 behaviours_row_depth limit behaviour_row.OneMoreOffer token parts = terms_before parts
 behaviours_row_depth limit behaviour_row.SelectionAfterOffers token parts = terms_before parts
-behaviours_row_depth limit behaviour_row.PrefixAfterOffers token parts = together parts
+behaviours_row_depth limit behaviour_row.PrefixAfterOffers token parts = parts_together parts
 behaviours_row_depth limit behaviour_row.ChoiceOfValues token parts = end_of_choice parts
 behaviours_row_depth limit behaviour_row.ChoiceOfGates token parts = end_of_choice parts
 behaviours_row_depth limit behaviour_row.Chosen token parts = chosen_part parts
 behaviours_row_depth limit behaviour_row.GateChoices token parts = around_middle parts
-behaviours_row_depth limit behaviour_row.NoMoreGateChoices token parts = together parts
-behaviours_row_depth limit behaviour_row.MoreGateChoices token parts = together parts
+behaviours_row_depth limit behaviour_row.NoMoreGateChoices token parts = parts_together parts
+behaviours_row_depth limit behaviour_row.MoreGateChoices token parts = parts_together parts
 behaviours_row_depth limit behaviour_row.ChoiceSign token parts = sign_part 3
-behaviours_row_depth limit behaviour_row.ParallelSign token parts = together parts
+behaviours_row_depth limit behaviour_row.ParallelSign token parts = parts_together parts
 behaviours_row_depth limit behaviour_row.DisablingSign token parts = sign_part 1
 behaviours_row_depth limit behaviour_row.EnablingSign token parts = sign_part 0
 behaviours_row_depth limit behaviour_row.Interleaving token parts = sign_part 2
 behaviours_row_depth limit behaviour_row.FullSynchronisation token parts = sign_part 2
 behaviours_row_depth limit behaviour_row.GateSynchronisation token parts = sign_part 2
-behaviours_row_depth limit behaviour_row.NoAccept token parts = together parts
-behaviours_row_depth limit behaviour_row.Accept token parts = together parts
-behaviours_row_depth limit other token parts = closing limit parts
+behaviours_row_depth limit behaviour_row.NoAccept token parts = parts_together parts
+behaviours_row_depth limit behaviour_row.Accept token parts = parts_together parts
+behaviours_row_depth limit other token parts = closing_parts limit parts
 
 abbrev pub definitions_row_depth : ℕ → DefinitionsRow → List DepthPart → Option DepthPart
-definitions_row_depth limit definition_row.NoParameters parts = together parts
-definitions_row_depth limit definition_row.Parameters parts = together parts
-definitions_row_depth limit definition_row.NoExitSorts parts = together parts
-definitions_row_depth limit definition_row.ExitSorts parts = together parts
-definitions_row_depth limit other parts = closing limit parts
+definitions_row_depth limit definition_row.NoParameters parts = parts_together parts
+definitions_row_depth limit definition_row.Parameters parts = parts_together parts
+definitions_row_depth limit definition_row.NoExitSorts parts = parts_together parts
+definitions_row_depth limit definition_row.ExitSorts parts = parts_together parts
+definitions_row_depth limit other parts = closing_parts limit parts
 
 abbrev pub starts_row_depth : ℕ → StartsRow → List DepthPart → Option DepthPart
-starts_row_depth limit start_row.NoTerms parts = together parts
-starts_row_depth limit start_row.Terms parts = together parts
-starts_row_depth limit other parts = closing limit parts
+starts_row_depth limit start_row.NoTerms parts = parts_together parts
+starts_row_depth limit start_row.Terms parts = parts_together parts
+starts_row_depth limit other parts = closing_parts limit parts
 
 -- a row by its name
 abbrev pub row_depth : ℕ → RowName → Option Token → List DepthPart → Option DepthPart
@@ -262,10 +262,10 @@ row_depth limit (of_subject.Names row) token parts = names_row_depth limit row t
 row_depth limit (of_subject.Terms row) token parts = terms_row_depth row token parts
 row_depth limit (of_subject.Types row) token parts = types_row_depth limit row parts
 row_depth limit (of_subject.Equations row) token parts = equations_row_depth limit row parts
-row_depth limit (of_subject.Renamings row) token parts = closing limit parts
+row_depth limit (of_subject.Renamings row) token parts = closing_parts limit parts
 row_depth limit (of_subject.Behaviours row) token parts = behaviours_row_depth limit row token parts
 row_depth limit (of_subject.Definitions row) token parts = definitions_row_depth limit row parts
-row_depth limit (of_subject.Specification row) token parts = closing limit parts
+row_depth limit (of_subject.Specification row) token parts = closing_parts limit parts
 row_depth limit (of_subject.Starts row) token parts = starts_row_depth limit row parts
 
 -- a row by its number

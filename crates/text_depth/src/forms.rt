@@ -4,11 +4,11 @@
 ghost use Rattle.std.specs.Prelude.{◌≡◌, IfOk, OnOk, fold, option_map};
 ghost use Rattle.ll_engine.specs.Run.{from_last};
 ghost use Rattle.lotos_base.specs.WrittenView.{text_place_of};
-ghost use Rattle.syntax_trees.specs.Firsts.{between};
+ghost use Rattle.syntax_trees.specs.Firsts.{firsts_between};
 ghost use Rattle.syntax_trees.specs.FirstsView.{firsts_of};
 ghost use Rattle.syntax_trees.specs.TreeFirsts.{names_firsts};
 ghost use Rattle.text_depth.specs.DepthPart.{before_first_operand, of_flat};
-ghost use Rattle.text_depth.specs.RowDepth.{applied_name, around_middle, below_first, bracket_first, bracketed_term, call_end, choice_form, chosen_part, end_of_choice, exit_first, factor_first, first_operand, guard_prefix, in_front, inner_prefix, left_grouped, named_first, one_operand, par_form, sign_part, stop_first, terms_before, token_name, word_form};
+ghost use Rattle.text_depth.specs.RowDepth.{applied_name, around_middle, below_first, bracket_first, bracketed_term, call_end, choice_form, chosen_part, end_of_choice, exit_first, factor_first, first_operand, guard_prefix, node_in_front, inner_prefix, left_grouped, named_first, one_operand, par_form, sign_part, stop_first, terms_before, token_name, word_form};
 ghost use Rattle.text_depth.specs.PartView.{kept_of};
 
 use crate::lists::{Kept, both};
@@ -33,7 +33,7 @@ pub fn token_name(alloc: Global, token: Option<Token>) -> Kept
 /// A term of its first factor and those behind it, which are held from the last to the first.
 fn factors(first: FirstNodes, mut behind: Vec<FirstNodes>) -> Result<FirstNodes, AllocError>
     ensures { IfOk result (λ term. firsts_of term
-        ≡ fold between (firsts_of first) (from_last firsts_of behind.items)) }
+        ≡ fold firsts_between (firsts_of first) (from_last firsts_of behind.items)) }
 {
     let mut left = first;
     while let Some(next) = behind.pop() {
@@ -226,7 +226,7 @@ fn put_below(place: Place, operands: &mut Vec<FirstNodes>) -> Result<(), AllocEr
 /// A node in front of a flat list.
 fn in_front(alloc: Global, place: Place, mut flat: KeptPart) -> Kept
     ensures { IfOk result (λ kept. option_map kept_of kept
-        ≡ in_front (text_place_of place) (kept_of flat)) }
+        ≡ node_in_front (text_place_of place) (kept_of flat)) }
 {
     put_below(place, &mut flat.operands)?;
     Ok(Some(KeptPart::of_flat(alloc, flat.operands, flat.strengths)))

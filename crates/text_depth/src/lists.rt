@@ -4,7 +4,7 @@ ghost use Rattle.std.specs.Prelude.{◌≡◌, IfOk, Some, option_map};
 ghost use Rattle.ll_engine.specs.Run.{from_last};
 ghost use Rattle.lotos_base.specs.WrittenView.{text_place_of};
 ghost use Rattle.syntax_trees.specs.Firsts.{everywhere};
-ghost use Rattle.text_depth.specs.RowDepth.{both, closed_part, closed_parts, closing, joined_parts, together};
+ghost use Rattle.text_depth.specs.RowDepth.{both_depth_parts, closed_part, closed_parts, closing_parts, joined_parts, parts_together};
 ghost use Rattle.text_depth.specs.PartView.{kept_of};
 
 use crate::part::{KeptPart, grouped_firsts};
@@ -52,7 +52,7 @@ fn closed_parts(
 /// Parts each of which counts from its own root.
 pub fn closing(alloc: Global, parts: Vec<KeptPart>, limit: usize) -> Kept
     ensures { IfOk result (λ kept. option_map kept_of kept
-        ≡ closing limit (from_last kept_of parts.items)) }
+        ≡ closing_parts limit (from_last kept_of parts.items)) }
 {
     let found = closed_parts(alloc, parts, limit)?;
     Ok(Some(KeptPart::of_firsts(alloc, FirstNodes::everywhere(alloc, found))))
@@ -61,7 +61,8 @@ pub fn closing(alloc: Global, parts: Vec<KeptPart>, limit: usize) -> Kept
 /// Lists one behind the other.
 #[tactic(auto, using(tree_building::proofs::FromLast::from_last_append))]
 pub fn both(some: KeptPart, others: KeptPart) -> Result<KeptPart, AllocError>
-    ensures { IfOk result (λ kept. kept_of kept ≡ both (kept_of some) (kept_of others)) }
+    ensures { IfOk result (λ kept. kept_of kept
+        ≡ both_depth_parts (kept_of some) (kept_of others)) }
 {
     let KeptPart {
         mut names,
@@ -99,7 +100,7 @@ fn joined_parts(alloc: Global, mut parts: Vec<KeptPart>) -> Result<KeptPart, All
 /// Lists one behind the other.
 pub fn together(alloc: Global, parts: Vec<KeptPart>) -> Kept
     ensures { IfOk result (λ kept. option_map kept_of kept
-        ≡ together (from_last kept_of parts.items)) }
+        ≡ parts_together (from_last kept_of parts.items)) }
 {
     Ok(Some(joined_parts(alloc, parts)?))
 }

@@ -4,7 +4,7 @@ ghost use Rattle.std.specs.Prelude.{◌≡◌, IfOk, reverse};
 ghost use Rattle.ll_engine.specs.Run.{from_last};
 ghost use Rattle.lotos_base.specs.WrittenView.{text_place_of};
 ghost use Rattle.syntax_trees.specs.Grouping.{grouped};
-ghost use Rattle.syntax_trees.specs.Firsts.{between};
+ghost use Rattle.syntax_trees.specs.Firsts.{firsts_between};
 ghost use Rattle.syntax_trees.specs.FirstsView.{firsts_of};
 ghost use Rattle.text_depth.specs.DepthPart.{of_firsts, of_flat, of_names};
 ghost use Rattle.text_depth.specs.RowDepth.{grouped_firsts, or_no_nodes};
@@ -85,7 +85,7 @@ pub fn grouped_firsts(
     strengths: Vec<u8>,
 ) -> Result<FirstNodes, AllocError>
     ensures { IfOk result (λ firsts. firsts_of firsts
-        ≡ or_no_nodes (grouped (λ strength. strength) (λ strength. between)
+        ≡ or_no_nodes (grouped (λ strength. strength) (λ strength. firsts_between)
         (from_last firsts_of operands.items) (from_last (λ strength. strength) strengths.items))) }
 {
     if operands.len() != strengths.len() + 1 {

@@ -5,7 +5,7 @@ use Rattle.lotos_base.specs.declared.written_terms.Written.{Written}
 use Rattle.lotos_base.specs.WrittenTerm.{WrittenTerm}
 use Rattle.lotos_base.specs.WrittenView.{text_place_of, placed_name_of, written_term_of}
 use Rattle.syntax_trees.specs.declared.named.VarText.{VarText}
-use Rattle.syntax_trees.specs.TreeViews.{variable_of, premiss_of, offer_of, exit_value_of, gate_choice_of, behaviour_of, placed_sign_of}
+use Rattle.syntax_trees.specs.TreeViews.{written_variable_of, premiss_of, written_offer_of, written_exit_value_of, gate_choice_of, written_behaviour_of, placed_sign_of}
 use Rattle.syntax_trees.specs.WrittenVariable.{WrittenVariable}
 use Rattle.tree_building.specs.declared.behaviours_values.Flat.{Flat}
 use Rattle.tree_building.specs.declared.behaviours_values.ActionEnd.{ActionEnd}
@@ -15,15 +15,15 @@ use Rattle.tree_building.specs.declared.behaviours_values.GateChoiceEnd.{GateCho
 use Rattle.lotos_rows.specs.HandedOn.{from_last}
 use Rattle.tree_building.specs.Meaning.{PlainFlat, PlainActionEnd, PlainCallEnd, PlainValueChoiceEnd, PlainGateChoiceEnd}
 
-abbrev pub let_of : VarText × Written → WrittenVariable × WrittenTerm
-let_of pair = (variable_of pair.0, written_term_of pair.1)
+abbrev pub written_let_of : VarText × Written → WrittenVariable × WrittenTerm
+written_let_of pair = (written_variable_of pair.0, written_term_of pair.1)
 
 abbrev pub flat_of : Flat → PlainFlat
-flat_of flat = record { operands = from_last behaviour_of flat.operands.items; signs = from_last placed_sign_of flat.signs.items }
+flat_of flat = record { operands = from_last written_behaviour_of flat.operands.items; signs = from_last placed_sign_of flat.signs.items }
 
 abbrev pub action_end_of : ActionEnd → PlainActionEnd
 action_end_of end = record {
-  offers = from_last offer_of end.offers.items;
+  offers = from_last written_offer_of end.offers.items;
   test = option_map premiss_of end.test;
   behind = flat_of end.behind;
 }
@@ -38,13 +38,13 @@ call_end_of end = record {
 abbrev pub value_choice_end_of : ValueChoiceEnd → PlainValueChoiceEnd
 value_choice_end_of end = record {
   sort = placed_name_of end.sort;
-  more = from_last variable_of end.more.items;
-  inside = behaviour_of end.inside.value;
+  more = from_last written_variable_of end.more.items;
+  inside = written_behaviour_of end.inside.value;
 }
 
 abbrev pub gate_choice_end_of : GateChoiceEnd → PlainGateChoiceEnd
 gate_choice_end_of end = record {
   among = from_last placed_name_of end.among.items;
   more = from_last gate_choice_of end.more.items;
-  inside = behaviour_of end.inside.value;
+  inside = written_behaviour_of end.inside.value;
 }

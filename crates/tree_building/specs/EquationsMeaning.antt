@@ -6,7 +6,7 @@ use Rattle.lotos_rows.specs.HandedOn.{Token}
 use Rattle.syntax_trees.specs.WrittenEquation.{WrittenPremiss, WrittenEquation}
 use Rattle.lotos_rows.specs.Names.{place_of}
 use Rattle.tree_building.specs.Meaning.{PlainStartedTerm, PlainConclusion, PlainAfterTerm, Meaning, some_groups, some_equations, an_equation, a_conclusion, maybe_conclusion, after_term, a_premiss, maybe_term}
-use Rattle.tree_building.specs.Parts.{with_next, name_in, variables_in, term_in, groups_in, equations_in, equation_in, conclusion_in, maybe_conclusion_in, after_term_in, premiss_in, maybe_term_in}
+use Rattle.tree_building.specs.Parts.{with_next, meant_name, meant_variables, meant_term, meant_groups, meant_equations, meant_equation, meant_conclusion, meant_maybe_conclusion, meant_after_term, meant_premiss, meant_maybe_term}
 
 abbrev pub no_groups : Option Meaning
 no_groups = Some (some_groups [])
@@ -14,20 +14,22 @@ no_groups = Some (some_groups [])
 -- "ofsort" name variables_for_all equation_list equation_groups
 abbrev pub group_before_groups : List Meaning → Option Meaning
 group_before_groups parts =
-    with_next name_in parts (λ sort parts. with_next variables_in parts (λ variables parts. with_next equations_in parts (λ equations parts.
-    with_next groups_in parts (λ groups parts.
+    with_next meant_name parts
+    (λ sort parts. with_next meant_variables parts (λ variables parts. with_next meant_equations parts (λ equations parts.
+    with_next meant_groups parts (λ groups parts.
     Some (some_groups (record { place = sort.place; sort = sort.name; variables = variables; equations = equations } ∷ groups))))))
 
 abbrev pub no_equations_listed : Option Meaning
 no_equations_listed = Some (some_equations [])
 
 abbrev pub same_equations : List Meaning → Option Meaning
-same_equations parts = with_next equations_in parts (λ equations parts. Some (some_equations equations))
+same_equations parts = with_next meant_equations parts (λ equations parts. Some (some_equations equations))
 
 -- equation after_equation
 abbrev pub equation_before_equations : List Meaning → Option Meaning
 equation_before_equations parts =
-    with_next equation_in parts (λ equation parts. with_next equations_in parts (λ more parts. Some (some_equations (equation ∷ more))))
+    with_next meant_equation parts
+    (λ equation parts. with_next meant_equations parts (λ more parts. Some (some_equations (equation ∷ more))))
 
 -- the premiss that a first term and its right side are
 abbrev pub first_premiss : PlainStartedTerm → Option WrittenTerm → WrittenPremiss
@@ -53,28 +55,29 @@ equation_from first None None = None
 -- term after_first_term
 abbrev pub equation_of_term : List Meaning → Option Meaning
 equation_of_term parts =
-    with_next term_in parts (λ first parts. with_next after_term_in parts (λ after parts. equation_from first after.right after.conclusion))
+    with_next meant_term parts
+    (λ first parts. with_next meant_after_term parts (λ after parts. equation_from first after.right after.conclusion))
 
 -- "=" term after_first_pair
 abbrev pub equals_after_term : List Meaning → Option Meaning
 equals_after_term parts =
-    with_next term_in parts (λ right parts. with_next maybe_conclusion_in parts (λ conclusion parts.
+    with_next meant_term parts (λ right parts. with_next meant_maybe_conclusion parts (λ conclusion parts.
     Some (after_term (record { right = Some right.term; conclusion = conclusion }))))
 
 abbrev pub conclusion_after_term : List Meaning → Option Meaning
 conclusion_after_term parts =
-    with_next conclusion_in parts (λ conclusion parts. Some (after_term (record { right = None; conclusion = Some conclusion })))
+    with_next meant_conclusion parts (λ conclusion parts. Some (after_term (record { right = None; conclusion = Some conclusion })))
 
 abbrev pub no_conclusion : Option Meaning
 no_conclusion = Some (maybe_conclusion None)
 
 abbrev pub some_conclusion : List Meaning → Option Meaning
-some_conclusion parts = with_next conclusion_in parts (λ conclusion parts. Some (maybe_conclusion (Some conclusion)))
+some_conclusion parts = with_next meant_conclusion parts (λ conclusion parts. Some (maybe_conclusion (Some conclusion)))
 
 -- "," premiss conclusion
 abbrev pub premiss_before_conclusion : List Meaning → Option Meaning
 premiss_before_conclusion parts =
-    with_next premiss_in parts (λ premiss parts. with_next conclusion_in parts (λ conclusion parts.
+    with_next meant_premiss parts (λ premiss parts. with_next meant_conclusion parts (λ conclusion parts.
     Some (a_conclusion (record {
       premisses = premiss ∷ conclusion.premisses;
       arrow = conclusion.arrow;
@@ -85,16 +88,16 @@ premiss_before_conclusion parts =
 -- "=>" term "=" term
 abbrev pub conclusion_of_terms : Option Token → List Meaning → Option Meaning
 conclusion_of_terms token parts =
-    option_and_then (λ arrow. with_next term_in parts (λ left parts. with_next term_in parts (λ right parts.
+    option_and_then (λ arrow. with_next meant_term parts (λ left parts. with_next meant_term parts (λ right parts.
     Some (a_conclusion (record { premisses = []; arrow = place_of arrow; left = left.term; right = right.term }))))) token
 
 -- term premiss_right
 abbrev pub premiss_of_term : List Meaning → Option Meaning
 premiss_of_term parts =
-    with_next term_in parts (λ left parts. with_next maybe_term_in parts (λ right parts. Some (a_premiss (first_premiss left right))))
+    with_next meant_term parts (λ left parts. with_next meant_maybe_term parts (λ right parts. Some (a_premiss (first_premiss left right))))
 
 abbrev pub no_right_side : Option Meaning
 no_right_side = Some (maybe_term None)
 
 abbrev pub some_right_side : List Meaning → Option Meaning
-some_right_side parts = with_next term_in parts (λ right parts. Some (maybe_term (Some right.term)))
+some_right_side parts = with_next meant_term parts (λ right parts. Some (maybe_term (Some right.term)))

@@ -1,7 +1,7 @@
 -- The plain values of what the parts of equations are built into.
 use Rattle.std.specs.Prelude.{option_map}
 use Rattle.lotos_base.specs.WrittenView.{text_place_of, written_term_of}
-use Rattle.syntax_trees.specs.TreeViews.{premiss_of, equation_of, group_of}
+use Rattle.syntax_trees.specs.TreeViews.{premiss_of, written_equation_of, group_of}
 use Rattle.tree_building.specs.declared.equations_values.Conclusion.{Conclusion}
 use Rattle.tree_building.specs.declared.equations_values.AfterTerm.{AfterTerm}
 use Rattle.lotos_rows.specs.HandedOn.{from_last}

@@ -19,186 +19,186 @@ next_in found (part ∷ parts) = option_map (λ value. (value, parts)) (found pa
 abbrev pub with_next : {A B : Type 0} → (Meaning → Option A) → List Meaning → (A → List Meaning → Option B) → Option B
 with_next found parts next = option_and_then (λ pair. next pair.0 pair.1) (next_in found parts)
 
-abbrev pub name_in : Meaning → Option PlacedName
-name_in (a_name value) = Some value
-name_in _ = None
+abbrev pub meant_name : Meaning → Option PlacedName
+meant_name (a_name value) = Some value
+meant_name _ = None
 
-abbrev pub names_in : Meaning → Option (List PlacedName)
-names_in (some_names value) = Some value
-names_in _ = None
+abbrev pub meant_names : Meaning → Option (List PlacedName)
+meant_names (some_names value) = Some value
+meant_names _ = None
 
-abbrev pub variables_in : Meaning → Option (List WrittenVariable)
-variables_in (some_variables value) = Some value
-variables_in _ = None
+abbrev pub meant_variables : Meaning → Option (List WrittenVariable)
+meant_variables (some_variables value) = Some value
+meant_variables _ = None
 
-abbrev pub operation_in : Meaning → Option NamedOperation
-operation_in (an_operation value) = Some value
-operation_in _ = None
+abbrev pub meant_operation : Meaning → Option NamedOperation
+meant_operation (an_operation value) = Some value
+meant_operation _ = None
 
-abbrev pub operations_in : Meaning → Option (List NamedOperation)
-operations_in (some_named_operations value) = Some value
-operations_in _ = None
+abbrev pub meant_operations : Meaning → Option (List NamedOperation)
+meant_operations (some_named_operations value) = Some value
+meant_operations _ = None
 
-abbrev pub profile_in : Meaning → Option PlacedProfile
-profile_in (a_profile value) = Some value
-profile_in _ = None
+abbrev pub meant_profile : Meaning → Option PlacedProfile
+meant_profile (a_profile value) = Some value
+meant_profile _ = None
 
-abbrev pub maybe_profile_in : Meaning → Option (Option PlacedProfile)
-maybe_profile_in (maybe_profile value) = Some value
-maybe_profile_in _ = None
+abbrev pub meant_maybe_profile : Meaning → Option (Option PlacedProfile)
+meant_maybe_profile (maybe_profile value) = Some value
+meant_maybe_profile _ = None
 
-abbrev pub maybe_name_in : Meaning → Option (Option PlacedName)
-maybe_name_in (maybe_name value) = Some value
-maybe_name_in _ = None
+abbrev pub meant_maybe_name : Meaning → Option (Option PlacedName)
+meant_maybe_name (maybe_name value) = Some value
+meant_maybe_name _ = None
 
-abbrev pub term_in : Meaning → Option PlainStartedTerm
-term_in (a_term value) = Some value
-term_in _ = None
+abbrev pub meant_term : Meaning → Option PlainStartedTerm
+meant_term (a_term value) = Some value
+meant_term _ = None
 
-abbrev pub factors_in : Meaning → Option (List (PlacedName × WrittenTerm))
-factors_in (some_factors value) = Some value
-factors_in _ = None
+abbrev pub meant_factors : Meaning → Option (List (PlacedName × WrittenTerm))
+meant_factors (some_factors value) = Some value
+meant_factors _ = None
 
-abbrev pub terms_in : Meaning → Option (List WrittenTerm)
-terms_in (some_terms value) = Some value
-terms_in _ = None
+abbrev pub meant_terms : Meaning → Option (List WrittenTerm)
+meant_terms (some_terms value) = Some value
+meant_terms _ = None
 
-abbrev pub groups_in : Meaning → Option (List WrittenGroup)
-groups_in (some_groups value) = Some value
-groups_in _ = None
+abbrev pub meant_groups : Meaning → Option (List WrittenGroup)
+meant_groups (some_groups value) = Some value
+meant_groups _ = None
 
-abbrev pub equations_in : Meaning → Option (List WrittenEquation)
-equations_in (some_equations value) = Some value
-equations_in _ = None
+abbrev pub meant_equations : Meaning → Option (List WrittenEquation)
+meant_equations (some_equations value) = Some value
+meant_equations _ = None
 
-abbrev pub equation_in : Meaning → Option WrittenEquation
-equation_in (an_equation value) = Some value
-equation_in _ = None
+abbrev pub meant_equation : Meaning → Option WrittenEquation
+meant_equation (an_equation value) = Some value
+meant_equation _ = None
 
-abbrev pub conclusion_in : Meaning → Option PlainConclusion
-conclusion_in (a_conclusion value) = Some value
-conclusion_in _ = None
+abbrev pub meant_conclusion : Meaning → Option PlainConclusion
+meant_conclusion (a_conclusion value) = Some value
+meant_conclusion _ = None
 
-abbrev pub maybe_conclusion_in : Meaning → Option (Option PlainConclusion)
-maybe_conclusion_in (maybe_conclusion value) = Some value
-maybe_conclusion_in _ = None
+abbrev pub meant_maybe_conclusion : Meaning → Option (Option PlainConclusion)
+meant_maybe_conclusion (maybe_conclusion value) = Some value
+meant_maybe_conclusion _ = None
 
-abbrev pub after_term_in : Meaning → Option PlainAfterTerm
-after_term_in (after_term value) = Some value
-after_term_in _ = None
+abbrev pub meant_after_term : Meaning → Option PlainAfterTerm
+meant_after_term (after_term value) = Some value
+meant_after_term _ = None
 
-abbrev pub premiss_in : Meaning → Option WrittenPremiss
-premiss_in (a_premiss value) = Some value
-premiss_in _ = None
+abbrev pub meant_premiss : Meaning → Option WrittenPremiss
+meant_premiss (a_premiss value) = Some value
+meant_premiss _ = None
 
-abbrev pub maybe_term_in : Meaning → Option (Option WrittenTerm)
-maybe_term_in (maybe_term value) = Some value
-maybe_term_in _ = None
+abbrev pub meant_maybe_term : Meaning → Option (Option WrittenTerm)
+meant_maybe_term (maybe_term value) = Some value
+meant_maybe_term _ = None
 
-abbrev pub pairs_in : Meaning → Option (List WrittenPair)
-pairs_in (some_pairs value) = Some value
-pairs_in _ = None
+abbrev pub meant_pairs : Meaning → Option (List WrittenPair)
+meant_pairs (some_pairs value) = Some value
+meant_pairs _ = None
 
-abbrev pub both_pairs_in : Meaning → Option WrittenPairs
-both_pairs_in (both_pairs value) = Some value
-both_pairs_in _ = None
+abbrev pub meant_both_pairs : Meaning → Option WrittenPairs
+meant_both_pairs (both_pairs value) = Some value
+meant_both_pairs _ = None
 
-abbrev pub item_in : Meaning → Option WrittenItem
-item_in (an_item value) = Some value
-item_in _ = None
+abbrev pub meant_item : Meaning → Option WrittenItem
+meant_item (an_item value) = Some value
+meant_item _ = None
 
-abbrev pub items_in : Meaning → Option (List WrittenItem)
-items_in (some_items value) = Some value
-items_in _ = None
+abbrev pub meant_items : Meaning → Option (List WrittenItem)
+meant_items (some_items value) = Some value
+meant_items _ = None
 
-abbrev pub body_in : Meaning → Option WrittenTypeBody
-body_in (a_body value) = Some value
-body_in _ = None
+abbrev pub meant_body : Meaning → Option WrittenTypeBody
+meant_body (a_body value) = Some value
+meant_body _ = None
 
-abbrev pub after_base_in : Meaning → Option PlainAfterBase
-after_base_in (after_base value) = Some value
-after_base_in _ = None
+abbrev pub meant_after_base : Meaning → Option PlainAfterBase
+meant_after_base (after_base value) = Some value
+meant_after_base _ = None
 
-abbrev pub sections_in : Meaning → Option WrittenSections
-sections_in (some_sections value) = Some value
-sections_in _ = None
+abbrev pub meant_sections : Meaning → Option WrittenSections
+meant_sections (some_sections value) = Some value
+meant_sections _ = None
 
-abbrev pub declared_operations_in : Meaning → Option (List WrittenOperation)
-declared_operations_in (declared_operations value) = Some value
-declared_operations_in _ = None
+abbrev pub meant_declared_operations : Meaning → Option (List WrittenOperation)
+meant_declared_operations (declared_operations value) = Some value
+meant_declared_operations _ = None
 
-abbrev pub equation_section_in : Meaning → Option WrittenEquations
-equation_section_in (an_equation_section value) = Some value
-equation_section_in _ = None
+abbrev pub meant_equation_section : Meaning → Option WrittenEquations
+meant_equation_section (an_equation_section value) = Some value
+meant_equation_section _ = None
 
-abbrev pub operands_in : Meaning → Option PlainFlat
-operands_in (some_operands value) = Some value
-operands_in _ = None
+abbrev pub meant_operands : Meaning → Option PlainFlat
+meant_operands (some_operands value) = Some value
+meant_operands _ = None
 
-abbrev pub action_in : Meaning → Option PlainActionEnd
-action_in (an_action value) = Some value
-action_in _ = None
+abbrev pub meant_action : Meaning → Option PlainActionEnd
+meant_action (an_action value) = Some value
+meant_action _ = None
 
-abbrev pub call_in : Meaning → Option PlainCallEnd
-call_in (a_call value) = Some value
-call_in _ = None
+abbrev pub meant_call : Meaning → Option PlainCallEnd
+meant_call (a_call value) = Some value
+meant_call _ = None
 
-abbrev pub offers_in : Meaning → Option (List WrittenOffer)
-offers_in (some_offers value) = Some value
-offers_in _ = None
+abbrev pub meant_offers : Meaning → Option (List WrittenOffer)
+meant_offers (some_offers value) = Some value
+meant_offers _ = None
 
-abbrev pub exit_values_in : Meaning → Option (List WrittenExitValue)
-exit_values_in (some_exit_values value) = Some value
-exit_values_in _ = None
+abbrev pub meant_exit_values : Meaning → Option (List WrittenExitValue)
+meant_exit_values (some_exit_values value) = Some value
+meant_exit_values _ = None
 
-abbrev pub lets_in : Meaning → Option (List (WrittenVariable × WrittenTerm))
-lets_in (some_lets value) = Some value
-lets_in _ = None
+abbrev pub meant_lets : Meaning → Option (List (WrittenVariable × WrittenTerm))
+meant_lets (some_lets value) = Some value
+meant_lets _ = None
 
-abbrev pub gate_choices_in : Meaning → Option (List WrittenGateChoice)
-gate_choices_in (some_gate_choices value) = Some value
-gate_choices_in _ = None
+abbrev pub meant_gate_choices : Meaning → Option (List WrittenGateChoice)
+meant_gate_choices (some_gate_choices value) = Some value
+meant_gate_choices _ = None
 
-abbrev pub value_choice_in : Meaning → Option PlainValueChoiceEnd
-value_choice_in (a_value_choice value) = Some value
-value_choice_in _ = None
+abbrev pub meant_value_choice : Meaning → Option PlainValueChoiceEnd
+meant_value_choice (a_value_choice value) = Some value
+meant_value_choice _ = None
 
-abbrev pub gate_choice_in : Meaning → Option PlainGateChoiceEnd
-gate_choice_in (a_gate_choice value) = Some value
-gate_choice_in _ = None
+abbrev pub meant_gate_choice : Meaning → Option PlainGateChoiceEnd
+meant_gate_choice (a_gate_choice value) = Some value
+meant_gate_choice _ = None
 
-abbrev pub behaviour_in : Meaning → Option WrittenBehaviour
-behaviour_in (a_behaviour value) = Some value
-behaviour_in _ = None
+abbrev pub meant_behaviour : Meaning → Option WrittenBehaviour
+meant_behaviour (a_behaviour value) = Some value
+meant_behaviour _ = None
 
-abbrev pub sign_in : Meaning → Option PlacedSign
-sign_in (a_sign value) = Some value
-sign_in _ = None
+abbrev pub meant_sign : Meaning → Option PlacedSign
+meant_sign (a_sign value) = Some value
+meant_sign _ = None
 
-abbrev pub heading_in : Meaning → Option WrittenHeading
-heading_in (a_heading value) = Some value
-heading_in _ = None
+abbrev pub meant_heading : Meaning → Option WrittenHeading
+meant_heading (a_heading value) = Some value
+meant_heading _ = None
 
-abbrev pub functionality_in : Meaning → Option (Option (List PlacedName))
-functionality_in (a_functionality value) = Some value
-functionality_in _ = None
+abbrev pub meant_functionality : Meaning → Option (Option (List PlacedName))
+meant_functionality (a_functionality value) = Some value
+meant_functionality _ = None
 
-abbrev pub inner_in : Meaning → Option (List WrittenInner)
-inner_in (some_inner value) = Some value
-inner_in _ = None
+abbrev pub meant_inner : Meaning → Option (List WrittenInner)
+meant_inner (some_inner value) = Some value
+meant_inner _ = None
 
-abbrev pub process_in : Meaning → Option WrittenInner
-process_in (a_process value) = Some value
-process_in _ = None
+abbrev pub meant_process : Meaning → Option WrittenInner
+meant_process (a_process value) = Some value
+meant_process _ = None
 
-abbrev pub word_in : Meaning → Option (Unit {0})
-word_in (a_word value) = Some value
-word_in _ = None
+abbrev pub meant_word : Meaning → Option (Unit {0})
+meant_word (a_word value) = Some value
+meant_word _ = None
 
-abbrev pub specification_in : Meaning → Option WrittenSpecification
-specification_in (a_specification value) = Some value
-specification_in _ = None
+abbrev pub meant_specification : Meaning → Option WrittenSpecification
+meant_specification (a_specification value) = Some value
+meant_specification _ = None
 
-abbrev pub order_items_in : Meaning → Option (List ListedOperation)
-order_items_in (some_order_items value) = Some value
-order_items_in _ = None
+abbrev pub meant_order_items : Meaning → Option (List ListedOperation)
+meant_order_items (some_order_items value) = Some value
+meant_order_items _ = None

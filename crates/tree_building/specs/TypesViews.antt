@@ -1,7 +1,7 @@
 -- The plain values of what the parts of types are built into.
 use Rattle.std.specs.Prelude.{map}
 use Rattle.lotos_base.specs.WrittenView.{placed_name_of}
-use Rattle.syntax_trees.specs.TreeViews.{equations_of, operation_of, item_of}
+use Rattle.syntax_trees.specs.TreeViews.{equations_of, written_operation_of, item_of}
 use Rattle.syntax_trees.specs.WrittenItem.{WrittenSections, WrittenTypeBody, extends, renames, actualises}
 use Rattle.tree_building.specs.declared.types_values.Sections.{Sections}
 use Rattle.tree_building.specs.declared.types_values.TypeBody.{TypeBody}
@@ -12,23 +12,24 @@ use Rattle.tree_building.specs.RenamingsViews.{both_pairs_of}
 use Rattle.lotos_rows.specs.HandedOn.{from_last}
 use Rattle.tree_building.specs.Meaning.{PlainAfterBase, renamed, actualised, extended}
 
-abbrev pub sections_of : Sections → WrittenSections
-sections_of sections = record {
+abbrev pub written_sections_of : Sections → WrittenSections
+written_sections_of sections = record {
   formal_sorts = map placed_name_of sections.formal_sorts.items;
-  formal_operations = map operation_of sections.formal_ops.items;
+  formal_operations = map written_operation_of sections.formal_ops.items;
   formal_equations = equations_of sections.formal_equations;
   sorts = map placed_name_of sections.sorts.items;
-  operations = map operation_of sections.ops.items;
+  operations = map written_operation_of sections.ops.items;
   equations = equations_of sections.equations;
 }
 
-abbrev pub type_body_of : TypeBody → WrittenTypeBody
-type_body_of (type_body.Extends imports sections) = extends (from_last placed_name_of imports.items) (sections_of sections.value)
-type_body_of (type_body.Renames base pairs) = renames (placed_name_of base) (both_pairs_of pairs)
-type_body_of (type_body.Actualises base actuals pairs) =
+abbrev pub written_type_body_of : TypeBody → WrittenTypeBody
+written_type_body_of (type_body.Extends imports sections) =
+    extends (from_last placed_name_of imports.items) (written_sections_of sections.value)
+written_type_body_of (type_body.Renames base pairs) = renames (placed_name_of base) (both_pairs_of pairs)
+written_type_body_of (type_body.Actualises base actuals pairs) =
     actualises (placed_name_of base) (from_last placed_name_of actuals.items) (both_pairs_of pairs)
 
 abbrev pub after_base_of : AfterBase → PlainAfterBase
 after_base_of (behind.Renamed pairs) = renamed (both_pairs_of pairs)
 after_base_of (behind.Actualised actuals pairs) = actualised (from_last placed_name_of actuals.items) (both_pairs_of pairs)
-after_base_of (behind.Extended imports sections) = extended (from_last placed_name_of imports.items) (sections_of sections.value)
+after_base_of (behind.Extended imports sections) = extended (from_last placed_name_of imports.items) (written_sections_of sections.value)

@@ -6,11 +6,11 @@ ghost use Rattle.lotos_base.specs.WrittenTerm.{WrittenTerm};
 ghost use Rattle.syntax_trees.specs.WrittenVariable.{WrittenVariable};
 ghost use Rattle.syntax_trees.specs.WrittenBehaviour.{WrittenBehaviour, WrittenExitValue, WrittenGateChoice, WrittenOffer};
 ghost use Rattle.syntax_trees.specs.Strength.{PlacedSign};
-ghost use Rattle.syntax_trees.specs.TreeViews.{offer_of, exit_value_of, gate_choice_of, behaviour_of, placed_sign_of};
+ghost use Rattle.syntax_trees.specs.TreeViews.{written_offer_of, written_exit_value_of, gate_choice_of, written_behaviour_of, placed_sign_of};
 ghost use Rattle.lotos_rows.specs.HandedOn.{from_last};
 ghost use Rattle.tree_building.specs.Meaning.{PlainActionEnd, PlainCallEnd, PlainFlat, PlainGateChoiceEnd, PlainValueChoiceEnd};
-ghost use Rattle.tree_building.specs.Parts.{operands_in, action_in, call_in, offers_in, exit_values_in, lets_in, gate_choices_in, value_choice_in, gate_choice_in, behaviour_in, sign_in};
-ghost use Rattle.tree_building.specs.BehavioursViews.{action_end_of, call_end_of, flat_of, gate_choice_end_of, let_of, value_choice_end_of};
+ghost use Rattle.tree_building.specs.Parts.{meant_operands, meant_action, meant_call, meant_offers, meant_exit_values, meant_lets, meant_gate_choices, meant_value_choice, meant_gate_choice, meant_behaviour, meant_sign};
+ghost use Rattle.tree_building.specs.BehavioursViews.{action_end_of, call_end_of, flat_of, gate_choice_end_of, written_let_of, value_choice_end_of};
 
 use crate::value::{Part, Value, of_another_kind};
 use lotos_base::{Place, Written};
@@ -75,7 +75,7 @@ impl Part for Flat {
 
     ghost plain = { λ x. flat_of x };
 
-    ghost found = { operands_in };
+    ghost found = { meant_operands };
 
     fn of(value: Value) -> Option<Self> {
         match value {
@@ -91,7 +91,7 @@ impl Part for ActionEnd {
 
     ghost plain = { λ x. action_end_of x };
 
-    ghost found = { action_in };
+    ghost found = { meant_action };
 
     fn of(value: Value) -> Option<Self> {
         match value {
@@ -107,7 +107,7 @@ impl Part for CallEnd {
 
     ghost plain = { λ x. call_end_of x };
 
-    ghost found = { call_in };
+    ghost found = { meant_call };
 
     fn of(value: Value) -> Option<Self> {
         match value {
@@ -121,9 +121,9 @@ impl Part for CallEnd {
 impl Part for Vec<OfferText> {
     ghost Plain = { List WrittenOffer };
 
-    ghost plain = { λ x. from_last offer_of x.items };
+    ghost plain = { λ x. from_last written_offer_of x.items };
 
-    ghost found = { offers_in };
+    ghost found = { meant_offers };
 
     fn of(value: Value) -> Option<Self> {
         match value {
@@ -137,9 +137,9 @@ impl Part for Vec<OfferText> {
 impl Part for Vec<ExitText> {
     ghost Plain = { List WrittenExitValue };
 
-    ghost plain = { λ x. from_last exit_value_of x.items };
+    ghost plain = { λ x. from_last written_exit_value_of x.items };
 
-    ghost found = { exit_values_in };
+    ghost found = { meant_exit_values };
 
     fn of(value: Value) -> Option<Self> {
         match value {
@@ -153,9 +153,9 @@ impl Part for Vec<ExitText> {
 impl Part for Vec<(VarText, Written)> {
     ghost Plain = { List (WrittenVariable × WrittenTerm) };
 
-    ghost plain = { λ x. from_last let_of x.items };
+    ghost plain = { λ x. from_last written_let_of x.items };
 
-    ghost found = { lets_in };
+    ghost found = { meant_lets };
 
     fn of(value: Value) -> Option<Self> {
         match value {
@@ -171,7 +171,7 @@ impl Part for Vec<GateText> {
 
     ghost plain = { λ x. from_last gate_choice_of x.items };
 
-    ghost found = { gate_choices_in };
+    ghost found = { meant_gate_choices };
 
     fn of(value: Value) -> Option<Self> {
         match value {
@@ -187,7 +187,7 @@ impl Part for ValueChoiceEnd {
 
     ghost plain = { λ x. value_choice_end_of x };
 
-    ghost found = { value_choice_in };
+    ghost found = { meant_value_choice };
 
     fn of(value: Value) -> Option<Self> {
         match value {
@@ -203,7 +203,7 @@ impl Part for GateChoiceEnd {
 
     ghost plain = { λ x. gate_choice_end_of x };
 
-    ghost found = { gate_choice_in };
+    ghost found = { meant_gate_choice };
 
     fn of(value: Value) -> Option<Self> {
         match value {
@@ -217,9 +217,9 @@ impl Part for GateChoiceEnd {
 impl Part for Box<BehText> {
     ghost Plain = { WrittenBehaviour };
 
-    ghost plain = { λ x. behaviour_of x.value };
+    ghost plain = { λ x. written_behaviour_of x.value };
 
-    ghost found = { behaviour_in };
+    ghost found = { meant_behaviour };
 
     fn of(value: Value) -> Option<Self> {
         match value {
@@ -235,7 +235,7 @@ impl Part for (Place, Sign) {
 
     ghost plain = { λ x. placed_sign_of x };
 
-    ghost found = { sign_in };
+    ghost found = { meant_sign };
 
     fn of(value: Value) -> Option<Self> {
         match value {

@@ -4,10 +4,10 @@
 ghost use Rattle.std.specs.Prelude.{List, Option, option_map};
 ghost use Rattle.lotos_base.specs.WrittenTerm.{PlacedName};
 ghost use Rattle.syntax_trees.specs.WrittenDefinition.{WrittenHeading, WrittenInner};
-ghost use Rattle.syntax_trees.specs.TreeViews.{inner_of, process_of};
+ghost use Rattle.syntax_trees.specs.TreeViews.{inner_of, written_process_of};
 ghost use Rattle.lotos_rows.specs.HandedOn.{from_last};
-ghost use Rattle.tree_building.specs.Parts.{heading_in, functionality_in, inner_in, process_in};
-ghost use Rattle.tree_building.specs.DefinitionsViews.{plain_heading_of, sorts_of};
+ghost use Rattle.tree_building.specs.Parts.{meant_heading, meant_functionality, meant_inner, meant_process};
+ghost use Rattle.tree_building.specs.DefinitionsViews.{plain_heading_of, written_exit_sorts_of};
 
 use crate::value::{Part, Value, of_another_kind};
 use lotos_base::{Name, Place};
@@ -34,7 +34,7 @@ impl Part for Heading {
 
     ghost plain = { λ x. plain_heading_of x };
 
-    ghost found = { heading_in };
+    ghost found = { meant_heading };
 
     fn of(value: Value) -> Option<Self> {
         match value {
@@ -48,9 +48,9 @@ impl Part for Heading {
 impl Part for Option<Vec<Named>> {
     ghost Plain = { Option (List PlacedName) };
 
-    ghost plain = { λ x. option_map sorts_of x };
+    ghost plain = { λ x. option_map written_exit_sorts_of x };
 
-    ghost found = { functionality_in };
+    ghost found = { meant_functionality };
 
     fn of(value: Value) -> Option<Self> {
         match value {
@@ -66,7 +66,7 @@ impl Part for Vec<InnerText> {
 
     ghost plain = { λ x. from_last inner_of x.items };
 
-    ghost found = { inner_in };
+    ghost found = { meant_inner };
 
     fn of(value: Value) -> Option<Self> {
         match value {
@@ -80,9 +80,9 @@ impl Part for Vec<InnerText> {
 impl Part for ProcessText {
     ghost Plain = { WrittenInner };
 
-    ghost plain = { λ x. process_of x };
+    ghost plain = { λ x. written_process_of x };
 
-    ghost found = { process_in };
+    ghost found = { meant_process };
 
     fn of(value: Value) -> Option<Self> {
         match value {

@@ -5,10 +5,10 @@ ghost use Rattle.std.specs.Prelude.{List, Option, option_map};
 ghost use Rattle.lotos_base.specs.WrittenTerm.{WrittenTerm};
 ghost use Rattle.syntax_trees.specs.WrittenEquation.{WrittenEquation, WrittenGroup, WrittenPremiss};
 ghost use Rattle.lotos_base.specs.WrittenView.{written_term_of};
-ghost use Rattle.syntax_trees.specs.TreeViews.{group_of, equation_of, premiss_of};
+ghost use Rattle.syntax_trees.specs.TreeViews.{group_of, written_equation_of, premiss_of};
 ghost use Rattle.lotos_rows.specs.HandedOn.{from_last};
 ghost use Rattle.tree_building.specs.Meaning.{PlainAfterTerm, PlainConclusion};
-ghost use Rattle.tree_building.specs.Parts.{groups_in, equations_in, equation_in, conclusion_in, maybe_conclusion_in, after_term_in, premiss_in, maybe_term_in};
+ghost use Rattle.tree_building.specs.Parts.{meant_groups, meant_equations, meant_equation, meant_conclusion, meant_maybe_conclusion, meant_after_term, meant_premiss, meant_maybe_term};
 ghost use Rattle.tree_building.specs.EquationsViews.{after_term_of, conclusion_of};
 
 use crate::value::{Part, Value, of_another_kind};
@@ -41,7 +41,7 @@ impl Part for Vec<GroupText> {
 
     ghost plain = { λ x. from_last group_of x.items };
 
-    ghost found = { groups_in };
+    ghost found = { meant_groups };
 
     fn of(value: Value) -> Option<Self> {
         match value {
@@ -55,9 +55,9 @@ impl Part for Vec<GroupText> {
 impl Part for Vec<EqText> {
     ghost Plain = { List WrittenEquation };
 
-    ghost plain = { λ x. from_last equation_of x.items };
+    ghost plain = { λ x. from_last written_equation_of x.items };
 
-    ghost found = { equations_in };
+    ghost found = { meant_equations };
 
     fn of(value: Value) -> Option<Self> {
         match value {
@@ -71,9 +71,9 @@ impl Part for Vec<EqText> {
 impl Part for EqText {
     ghost Plain = { WrittenEquation };
 
-    ghost plain = { λ x. equation_of x };
+    ghost plain = { λ x. written_equation_of x };
 
-    ghost found = { equation_in };
+    ghost found = { meant_equation };
 
     fn of(value: Value) -> Option<Self> {
         match value {
@@ -89,7 +89,7 @@ impl Part for Conclusion {
 
     ghost plain = { λ x. conclusion_of x };
 
-    ghost found = { conclusion_in };
+    ghost found = { meant_conclusion };
 
     fn of(value: Value) -> Option<Self> {
         match value {
@@ -105,7 +105,7 @@ impl Part for Option<Conclusion> {
 
     ghost plain = { λ x. option_map conclusion_of x };
 
-    ghost found = { maybe_conclusion_in };
+    ghost found = { meant_maybe_conclusion };
 
     fn of(value: Value) -> Option<Self> {
         match value {
@@ -121,7 +121,7 @@ impl Part for AfterTerm {
 
     ghost plain = { λ x. after_term_of x };
 
-    ghost found = { after_term_in };
+    ghost found = { meant_after_term };
 
     fn of(value: Value) -> Option<Self> {
         match value {
@@ -137,7 +137,7 @@ impl Part for TestText {
 
     ghost plain = { λ x. premiss_of x };
 
-    ghost found = { premiss_in };
+    ghost found = { meant_premiss };
 
     fn of(value: Value) -> Option<Self> {
         match value {
@@ -153,7 +153,7 @@ impl Part for Option<Written> {
 
     ghost plain = { λ x. option_map written_term_of x };
 
-    ghost found = { maybe_term_in };
+    ghost found = { meant_maybe_term };
 
     fn of(value: Value) -> Option<Self> {
         match value {

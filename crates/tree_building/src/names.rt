@@ -5,7 +5,7 @@ ghost use Rattle.lotos_base.specs.Name.{spelling};
 ghost use Rattle.lotos_base.specs.WrittenView.{placed_name_of};
 ghost use Rattle.lotos_rows.specs.Names.{named, spelled, variables_of_sort};
 ghost use Rattle.lotos_rows.specs.Behaviours.{variable_named};
-ghost use Rattle.syntax_trees.specs.TreeViews.{variable_of};
+ghost use Rattle.syntax_trees.specs.TreeViews.{written_variable_of};
 ghost use Rattle.lotos_rows.specs.HandedOn.{from_last};
 ghost use Rattle.tree_building.specs.MeaningView.{meaning};
 ghost use Rattle.tree_building.specs.NamesMeaning.{infix_operation, name_alone, name_before_names, prefix_operation, profile_of_names, same_names, token_named, variables_before_variables};
@@ -50,7 +50,7 @@ fn name_of(alloc: Global, text: &[u8], token: Token) -> Result<Named, AllocError
 
 /// The variable that a name of a sort is.
 pub fn variable_of_sort(alloc: Global, name: Named, sort: &Named) -> Result<VarText, AllocError>
-    ensures { IfOk result (λ variable. variable_of variable
+    ensures { IfOk result (λ variable. written_variable_of variable
         ≡ variable_named (placed_name_of name) (placed_name_of sort.now)) }
 {
     Ok(VarText {
@@ -87,9 +87,9 @@ pub fn add_variables(
     sort: &Named,
     variables: &mut Vec<VarText>,
 ) -> Result<(), AllocError>
-    ensures { OnOk result (from_last variable_of variables.new.items
+    ensures { OnOk result (from_last written_variable_of variables.new.items
         ≡ variables_of_sort (from_last placed_name_of names.items) (placed_name_of sort.now)
-        ++ from_last variable_of variables.old.items) }
+        ++ from_last written_variable_of variables.old.items) }
 {
     for name in names {
         variables.push(variable_of_sort(alloc, name, sort)?)?;

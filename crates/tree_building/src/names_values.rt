@@ -6,9 +6,9 @@ ghost use Rattle.lotos_base.specs.WrittenTerm.{PlacedName};
 ghost use Rattle.syntax_trees.specs.WrittenVariable.{WrittenVariable};
 ghost use Rattle.lotos_rows.specs.Names.{NamedOperation, PlacedProfile};
 ghost use Rattle.lotos_base.specs.WrittenView.{placed_name_of};
-ghost use Rattle.syntax_trees.specs.TreeViews.{variable_of};
+ghost use Rattle.syntax_trees.specs.TreeViews.{written_variable_of};
 ghost use Rattle.lotos_rows.specs.HandedOn.{from_last};
-ghost use Rattle.tree_building.specs.Parts.{name_in, names_in, variables_in, operation_in, operations_in, profile_in, maybe_profile_in, maybe_name_in};
+ghost use Rattle.tree_building.specs.Parts.{meant_name, meant_names, meant_variables, meant_operation, meant_operations, meant_profile, meant_maybe_profile, meant_maybe_name};
 ghost use Rattle.tree_building.specs.NamesViews.{named_operation_of, profile_of};
 
 use crate::value::{Part, Value, of_another_kind};
@@ -39,7 +39,7 @@ impl Part for Named {
 
     ghost plain = { λ x. placed_name_of x };
 
-    ghost found = { name_in };
+    ghost found = { meant_name };
 
     fn of(value: Value) -> Option<Self> {
         match value {
@@ -55,7 +55,7 @@ impl Part for Vec<Named> {
 
     ghost plain = { λ x. from_last placed_name_of x.items };
 
-    ghost found = { names_in };
+    ghost found = { meant_names };
 
     fn of(value: Value) -> Option<Self> {
         match value {
@@ -69,9 +69,9 @@ impl Part for Vec<Named> {
 impl Part for Vec<VarText> {
     ghost Plain = { List WrittenVariable };
 
-    ghost plain = { λ x. from_last variable_of x.items };
+    ghost plain = { λ x. from_last written_variable_of x.items };
 
-    ghost found = { variables_in };
+    ghost found = { meant_variables };
 
     fn of(value: Value) -> Option<Self> {
         match value {
@@ -87,7 +87,7 @@ impl Part for NamedOp {
 
     ghost plain = { λ x. named_operation_of x };
 
-    ghost found = { operation_in };
+    ghost found = { meant_operation };
 
     fn of(value: Value) -> Option<Self> {
         match value {
@@ -103,7 +103,7 @@ impl Part for Vec<NamedOp> {
 
     ghost plain = { λ x. from_last named_operation_of x.items };
 
-    ghost found = { operations_in };
+    ghost found = { meant_operations };
 
     fn of(value: Value) -> Option<Self> {
         match value {
@@ -119,7 +119,7 @@ impl Part for OpProfile {
 
     ghost plain = { λ x. profile_of x };
 
-    ghost found = { profile_in };
+    ghost found = { meant_profile };
 
     fn of(value: Value) -> Option<Self> {
         match value {
@@ -135,7 +135,7 @@ impl Part for Option<OpProfile> {
 
     ghost plain = { λ x. option_map profile_of x };
 
-    ghost found = { maybe_profile_in };
+    ghost found = { meant_maybe_profile };
 
     fn of(value: Value) -> Option<Self> {
         match value {
@@ -151,7 +151,7 @@ impl Part for Option<Named> {
 
     ghost plain = { λ x. option_map placed_name_of x };
 
-    ghost found = { maybe_name_in };
+    ghost found = { meant_maybe_name };
 
     fn of(value: Value) -> Option<Self> {
         match value {

@@ -5,7 +5,7 @@ ghost use Rattle.std.specs.Prelude.{List};
 ghost use Rattle.syntax_trees.specs.WrittenItem.{WrittenPair, WrittenPairs};
 ghost use Rattle.syntax_trees.specs.TreeViews.{pair_of};
 ghost use Rattle.lotos_rows.specs.HandedOn.{from_last};
-ghost use Rattle.tree_building.specs.Parts.{pairs_in, both_pairs_in};
+ghost use Rattle.tree_building.specs.Parts.{meant_pairs, meant_both_pairs};
 ghost use Rattle.tree_building.specs.RenamingsViews.{both_pairs_of};
 
 use crate::value::{Part, Value, of_another_kind};
@@ -26,7 +26,7 @@ impl Part for Vec<PairText> {
 
     ghost plain = { λ x. from_last pair_of x.items };
 
-    ghost found = { pairs_in };
+    ghost found = { meant_pairs };
 
     fn of(value: Value) -> Option<Self> {
         match value {
@@ -42,7 +42,7 @@ impl Part for BothPairs {
 
     ghost plain = { λ x. both_pairs_of x };
 
-    ghost found = { both_pairs_in };
+    ghost found = { meant_both_pairs };
 
     fn of(value: Value) -> Option<Self> {
         match value {

@@ -5,9 +5,9 @@ ghost use Rattle.std.specs.Prelude.{List};
 ghost use Rattle.lotos_base.specs.WrittenTerm.{ListedOperation};
 ghost use Rattle.syntax_trees.specs.WrittenDefinition.{WrittenSpecification};
 ghost use Rattle.lotos_base.specs.WrittenView.{listed_operation_of};
-ghost use Rattle.syntax_trees.specs.TreeViews.{specification_of};
+ghost use Rattle.syntax_trees.specs.TreeViews.{written_specification_of};
 ghost use Rattle.lotos_rows.specs.HandedOn.{from_last};
-ghost use Rattle.tree_building.specs.Parts.{word_in, specification_in, order_items_in};
+ghost use Rattle.tree_building.specs.Parts.{meant_word, meant_specification, meant_order_items};
 
 use crate::value::{Part, Value, of_another_kind};
 use lotos_base::OrderItem;
@@ -19,7 +19,7 @@ impl Part for () {
 
     ghost plain = { λ x. tt };
 
-    ghost found = { word_in };
+    ghost found = { meant_word };
 
     fn of(value: Value) -> Option<Self> {
         match value {
@@ -33,9 +33,9 @@ impl Part for () {
 impl Part for SpecText {
     ghost Plain = { WrittenSpecification };
 
-    ghost plain = { λ x. specification_of x };
+    ghost plain = { λ x. written_specification_of x };
 
-    ghost found = { specification_in };
+    ghost found = { meant_specification };
 
     fn of(value: Value) -> Option<Self> {
         match value {
@@ -51,7 +51,7 @@ impl Part for Vec<OrderItem> {
 
     ghost plain = { λ x. from_last listed_operation_of x.items };
 
-    ghost found = { order_items_in };
+    ghost found = { meant_order_items };
 
     fn of(value: Value) -> Option<Self> {
         match value {

@@ -7,7 +7,7 @@ ghost use Rattle.syntax_trees.specs.LeftGrouping.{grouped_left};
 ghost use Rattle.lotos_rows.specs.HandedOn.{from_last};
 ghost use Rattle.tree_building.specs.MeaningView.{meaning};
 ghost use Rattle.tree_building.specs.RowMeaning.{terms_row_means};
-ghost use Rattle.tree_building.specs.TermsMeaning.{applied_factor, bracketed_factor, factor_before_factors, term_before_terms, term_of_factors, with_sorts};
+ghost use Rattle.tree_building.specs.TermsMeaning.{applied_factor, bracketed_factor, factor_before_factors, term_before_terms, term_of_factors, with_written_sorts};
 ghost use Rattle.tree_building.specs.TermsViews.{factor_of};
 
 use crate::names::{Built, one_name, turned};
@@ -77,7 +77,7 @@ fn application(alloc: Global, name: Named, args: Vec<Written>) -> Written
 /// The term with the sorts of further `of`s put on it.
 fn marked(term: Written, mark: Vec<Named>) -> Result<Written, AllocError>
     ensures { IfOk result (λ it. written_term_of it
-        ≡ with_sorts (from_last placed_name_of mark.items) (written_term_of term)) }
+        ≡ with_written_sorts (from_last placed_name_of mark.items) (written_term_of term)) }
 {
     let Written {
         place,

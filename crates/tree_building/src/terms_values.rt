@@ -6,7 +6,7 @@ ghost use Rattle.lotos_base.specs.WrittenTerm.{PlacedName, WrittenTerm};
 ghost use Rattle.lotos_base.specs.WrittenView.{written_term_of};
 ghost use Rattle.lotos_rows.specs.HandedOn.{from_last};
 ghost use Rattle.tree_building.specs.Meaning.{PlainStartedTerm};
-ghost use Rattle.tree_building.specs.Parts.{term_in, factors_in, terms_in};
+ghost use Rattle.tree_building.specs.Parts.{meant_term, meant_factors, meant_terms};
 ghost use Rattle.tree_building.specs.TermsViews.{factor_of, started_term_of};
 
 use crate::value::{Part, Value, of_another_kind};
@@ -28,7 +28,7 @@ impl Part for StartedTerm {
 
     ghost plain = { λ x. started_term_of x };
 
-    ghost found = { term_in };
+    ghost found = { meant_term };
 
     fn of(value: Value) -> Option<Self> {
         match value {
@@ -44,7 +44,7 @@ impl Part for Vec<(Named, Written)> {
 
     ghost plain = { λ x. from_last factor_of x.items };
 
-    ghost found = { factors_in };
+    ghost found = { meant_factors };
 
     fn of(value: Value) -> Option<Self> {
         match value {
@@ -60,7 +60,7 @@ impl Part for Vec<Written> {
 
     ghost plain = { λ x. from_last written_term_of x.items };
 
-    ghost found = { terms_in };
+    ghost found = { meant_terms };
 
     fn of(value: Value) -> Option<Self> {
         match value {

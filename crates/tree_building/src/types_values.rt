@@ -4,11 +4,11 @@
 ghost use Rattle.std.specs.Prelude.{List};
 ghost use Rattle.syntax_trees.specs.WrittenEquation.{WrittenEquations};
 ghost use Rattle.syntax_trees.specs.WrittenItem.{WrittenItem, WrittenOperation, WrittenSections, WrittenTypeBody};
-ghost use Rattle.syntax_trees.specs.TreeViews.{item_of, operation_of, equations_of};
+ghost use Rattle.syntax_trees.specs.TreeViews.{item_of, written_operation_of, equations_of};
 ghost use Rattle.lotos_rows.specs.HandedOn.{from_last};
 ghost use Rattle.tree_building.specs.Meaning.{PlainAfterBase};
-ghost use Rattle.tree_building.specs.Parts.{item_in, items_in, body_in, after_base_in, sections_in, declared_operations_in, equation_section_in};
-ghost use Rattle.tree_building.specs.TypesViews.{after_base_of, sections_of, type_body_of};
+ghost use Rattle.tree_building.specs.Parts.{meant_item, meant_items, meant_body, meant_after_base, meant_sections, meant_declared_operations, meant_equation_section};
+ghost use Rattle.tree_building.specs.TypesViews.{after_base_of, written_sections_of, written_type_body_of};
 
 use crate::renamings_values::BothPairs;
 use crate::value::{Part, Value, of_another_kind};
@@ -59,7 +59,7 @@ impl Part for ItemText {
 
     ghost plain = { λ x. item_of x };
 
-    ghost found = { item_in };
+    ghost found = { meant_item };
 
     fn of(value: Value) -> Option<Self> {
         match value {
@@ -75,7 +75,7 @@ impl Part for Vec<ItemText> {
 
     ghost plain = { λ x. from_last item_of x.items };
 
-    ghost found = { items_in };
+    ghost found = { meant_items };
 
     fn of(value: Value) -> Option<Self> {
         match value {
@@ -89,9 +89,9 @@ impl Part for Vec<ItemText> {
 impl Part for TypeBody {
     ghost Plain = { WrittenTypeBody };
 
-    ghost plain = { λ x. type_body_of x };
+    ghost plain = { λ x. written_type_body_of x };
 
-    ghost found = { body_in };
+    ghost found = { meant_body };
 
     fn of(value: Value) -> Option<Self> {
         match value {
@@ -107,7 +107,7 @@ impl Part for AfterBase {
 
     ghost plain = { λ x. after_base_of x };
 
-    ghost found = { after_base_in };
+    ghost found = { meant_after_base };
 
     fn of(value: Value) -> Option<Self> {
         match value {
@@ -121,9 +121,9 @@ impl Part for AfterBase {
 impl Part for Box<Sections> {
     ghost Plain = { WrittenSections };
 
-    ghost plain = { λ x. sections_of x.value };
+    ghost plain = { λ x. written_sections_of x.value };
 
-    ghost found = { sections_in };
+    ghost found = { meant_sections };
 
     fn of(value: Value) -> Option<Self> {
         match value {
@@ -137,9 +137,9 @@ impl Part for Box<Sections> {
 impl Part for Vec<OpText> {
     ghost Plain = { List WrittenOperation };
 
-    ghost plain = { λ x. from_last operation_of x.items };
+    ghost plain = { λ x. from_last written_operation_of x.items };
 
-    ghost found = { declared_operations_in };
+    ghost found = { meant_declared_operations };
 
     fn of(value: Value) -> Option<Self> {
         match value {
@@ -155,7 +155,7 @@ impl Part for EqnsText {
 
     ghost plain = { λ x. equations_of x };
 
-    ghost found = { equation_section_in };
+    ghost found = { meant_equation_section };
 
     fn of(value: Value) -> Option<Self> {
         match value {

@@ -13,7 +13,7 @@ use Rattle.type_definitions.specs.TypeFault.{TypeFault, double_operation, double
 use Rattle.type_definitions.specs.Presentation.{Presentation as PlainPresentation, is_same_operation, is_same_sort, is_too_large, presentation_limit, with_new}
 use Rattle.type_definitions.specs.Actualisation.{Actualising, actual_operation, actual_sort, actualisation, actualised_equations, actualised_operations, actualised_sorts, formal_operations_of, formal_sorts_of, other_operation_image, operation_renamer, other_operations_of, other_sort_image, other_sorts_of, sort_renamer}
 use Rattle.type_definitions.specs.ActualisationFaults.{Coming, coming_at, coming_clash, coming_fault, coming_operations, coming_sorts, coming_too_many, formal_operation_fault, formal_sort_fault, operations_clash, there_already}
-use Rattle.type_definitions.specs.Flattened.{data_of}
+use Rattle.type_definitions.specs.Flattened.{flattened_data_of}
 use Rattle.type_presentations.specs.OperationListView.{HasOperationKeys, OperationList, operations_in}
 use Rattle.type_presentations.specs.SortListView.{HasSortKeys, SortList, sorts_in}
 use Rattle.type_presentations.specs.EquationListView.{HasEquationKeys, HaveSidesOf, equations_in}
@@ -352,7 +352,7 @@ have_come a base p new sorts ops s o base_sound sound within parts sort_keys ope
       base_is = parts.base_is;
       base_sound = base_sound;
       has = record { sorts = brought_sorts.none; operations = brought_ops.none };
-      actual_data = subst (λ (q : PlainPresentation). IsWellFormedData (data_of q)) (sym parts.actual_is) sound.data_;
+      actual_data = subst (λ (q : PlainPresentation). IsWellFormedData (flattened_data_of q)) (sym parts.actual_is) sound.data_;
       actual_within = ap (λ (q : PlainPresentation). is_too_large q) parts.actual_is ∙ within;
       keyed = record {
         sorts = sort_keys;

@@ -8,7 +8,7 @@ use Rattle.type_definitions.specs.Images.{equation_image}
 use Rattle.type_definitions.specs.ProfiledImage.{number_in}
 use Rattle.type_definitions.proofs.ImageLemmas.{image_of_signature, keeps_profiles}
 use Rattle.type_definitions.specs.Presentation.{Presentation as PlainPresentation, is_same_equation, with_new}
-use Rattle.type_definitions.specs.Flattened.{data_of}
+use Rattle.type_definitions.specs.Flattened.{flattened_data_of}
 use Rattle.type_definitions.specs.Actualisation.{Actualising, actualisation, actualised_sort, actualised_sorts, actualised_operation, actualised_operations, actualised_equations}
 use Rattle.type_presentations.specs.OperationListView.{HasOperationKeys, operations_in}
 use Rattle.type_presentations.specs.SortListView.{HasSortKeys, sorts_in}
@@ -133,10 +133,11 @@ comes_to a base p new sorts operations is same_sorts same_ops same_marks same_op
 -- ---- It is sound.
 
 data_come : (a : Actualising) (base p : Presentation) (sorts operations : List ℕ) → IsBrought a base p sorts operations
-    → IsWellFormedData (data_of (actualisation a))
+    → IsWellFormedData (flattened_data_of (actualisation a))
 data_come a base p sorts operations is =
     actualised_data a is.has
-    (subst (λ (q : PlainPresentation). IsWellFormedData (data_of q)) (sym is.base_is) is.base_sound.data_) is.actual_data is.sorts_differ
+    (subst (λ (q : PlainPresentation). IsWellFormedData (flattened_data_of q)) (sym is.base_is) is.base_sound.data_) is.actual_data
+    is.sorts_differ
     is.operations_differ
 
 -- what becomes of the sides
@@ -159,5 +160,5 @@ sound_then a base p new sorts operations is same_sorts same_ops same_marks same_
       (stay (actualisation a).signature
       (sides_of_larger a.actual.signature (actualisation a).signature p.equations.equations.items (actual_is_within a) is.sides)
       (images a base p sorts operations is));
-  data_ = subst (λ (q : PlainPresentation). IsWellFormedData (data_of q)) (sym comes) (data_come a base p sorts operations is);
+  data_ = subst (λ (q : PlainPresentation). IsWellFormedData (flattened_data_of q)) (sym comes) (data_come a base p sorts operations is);
 }

@@ -6,7 +6,7 @@ use Rattle.lotos_base.specs.Signature.{Operation, IsSort, IsWellFormedSignature}
 use Rattle.lotos_base.specs.Equation.{Equation, IsEquationOver, IsWellFormedData}
 use Rattle.sort_terms.specs.WellFormedTest.{all_differ, are_one_sort, are_one_operation}
 use Rattle.type_definitions.specs.Images.{operation_image, equation_image}
-use Rattle.type_definitions.specs.Flattened.{data_of}
+use Rattle.type_definitions.specs.Flattened.{flattened_data_of}
 use Rattle.type_definitions.specs.UnionLaws.{IsIn}
 use Rattle.type_definitions.specs.Actualisation.{Actualising, actualisation, actualised_sort, actualised_operation, other_operations_of, other_operation_image, operation_renamer}
 use Rattle.type_definitions.proofs.WithNewLemmas.{first_appearances}
@@ -86,10 +86,10 @@ no_other_equations a e at =
     first_appearances.equations.adds_nothing a.actual.equations
     (map (equation_image (actualised_sort a) (actualised_operation a)) a.base.presentation.equations) e at
 
-pub actualised_data : (a : Actualising) → HasActuals a → IsWellFormedData (data_of a.base.presentation)
-    → IsWellFormedData (data_of a.actual)
+pub actualised_data : (a : Actualising) → HasActuals a → IsWellFormedData (flattened_data_of a.base.presentation)
+    → IsWellFormedData (flattened_data_of a.actual)
     → all_differ are_one_sort (actualisation a).signature.sorts ≡ true
-    → all_differ are_one_operation (actualisation a).signature.operations ≡ true → IsWellFormedData (data_of (actualisation a))
+    → all_differ are_one_operation (actualisation a).signature.operations ≡ true → IsWellFormedData (flattened_data_of (actualisation a))
 actualised_data a has base actual sorts operations = record {
   signature = signature_well_formed a has base.signature actual.signature sorts operations;
   equations = λ e at.

@@ -9,7 +9,7 @@ use Rattle.lotos_base.specs.Signature.{Sort, Operation, Form}
 use Rattle.lotos_base.specs.Twins.{form_eq}
 use Rattle.sort_terms.specs.ReadingOutcome.{one_name, is_sort_name}
 use Rattle.type_definitions.specs.TypeFault.{TypeFault, fault_if}
-use Rattle.type_definitions.specs.Presentation.{is_marked}
+use Rattle.type_definitions.specs.Presentation.{is_marked_number}
 use Rattle.type_definitions.specs.UnionLaws.{IsIn}
 use Rattle.type_definitions.specs.Renaming.{pair_for}
 use Rattle.type_definitions.specs.Actualisation.{Actualising, marked_from, unmarked_from, actual_name, actualised_sort, is_actual, has_actual, other_form}
@@ -18,21 +18,22 @@ use Rattle.type_definitions.proofs.FaultLemmas.{none_first}
 
 -- ---- Marked and unmarked members.
 
-pub marked_there : {A : Type 0} (marks : List ℕ) (n i : ℕ) (xs : List A) (x : A) → slice_get xs i ≡ Some x → is_marked marks (n + i) ≡ true
+pub marked_there : {A : Type 0} (marks : List ℕ) (n i : ℕ) (xs : List A) (x : A) → slice_get xs i ≡ Some x
+    → is_marked_number marks (n + i) ≡ true
     → IsIn (marked_from marks n xs) x
 marked_there marks n i [] x found h = absurd (none-some x found)
 marked_there {A = A} marks n zero (y ∷ ys) x found h =
-    go (is_marked marks n) refl
+    go (is_marked_number marks n) refl
   where
-    here : is_marked marks n ≡ true
-    here = let at : n + 0 ≡ n = omega arith in subst (λ (k : ℕ). is_marked marks k ≡ true) at h
+    here : is_marked_number marks n ≡ true
+    here = let at : n + 0 ≡ n = omega arith in subst (λ (k : ℕ). is_marked_number marks k ≡ true) at h
 
-    go : (b : Bool) → is_marked marks n ≡ b
+    go : (b : Bool) → is_marked_number marks n ≡ b
         → IsIn (if b then y ∷ marked_from marks (suc n) ys else marked_from marks (suc n) ys) x
     go true is = (0, found)
-    go false is = absurd (both_ways (is_marked marks n) is here)
+    go false is = absurd (both_ways (is_marked_number marks n) is here)
 marked_there {A = A} marks n (suc i) (y ∷ ys) x found h =
-    go (is_marked marks n) (marked_there marks (suc n) i ys x found (subst (λ (k : ℕ). is_marked marks k ≡ true) at h))
+    go (is_marked_number marks n) (marked_there marks (suc n) i ys x found (subst (λ (k : ℕ). is_marked_number marks k ≡ true) at h))
   where
     at : n + suc i ≡ suc n + i
     at = omega arith
@@ -43,20 +44,20 @@ marked_there {A = A} marks n (suc i) (y ∷ ys) x found h =
     go false later = later
 
 pub unmarked_there : {A : Type 0} (marks : List ℕ) (n i : ℕ) (xs : List A) (x : A) → slice_get xs i ≡ Some x
-    → is_marked marks (n + i) ≡ false → IsIn (unmarked_from marks n xs) x
+    → is_marked_number marks (n + i) ≡ false → IsIn (unmarked_from marks n xs) x
 unmarked_there marks n i [] x found h = absurd (none-some x found)
 unmarked_there {A = A} marks n zero (y ∷ ys) x found h =
-    go (is_marked marks n) refl
+    go (is_marked_number marks n) refl
   where
-    here : is_marked marks n ≡ false
-    here = let at : n + 0 ≡ n = omega arith in subst (λ (k : ℕ). is_marked marks k ≡ false) at h
+    here : is_marked_number marks n ≡ false
+    here = let at : n + 0 ≡ n = omega arith in subst (λ (k : ℕ). is_marked_number marks k ≡ false) at h
 
-    go : (b : Bool) → is_marked marks n ≡ b
+    go : (b : Bool) → is_marked_number marks n ≡ b
         → IsIn (if b then unmarked_from marks (suc n) ys else y ∷ unmarked_from marks (suc n) ys) x
-    go true is = absurd (both_ways (is_marked marks n) here is)
+    go true is = absurd (both_ways (is_marked_number marks n) here is)
     go false is = (0, found)
 unmarked_there {A = A} marks n (suc i) (y ∷ ys) x found h =
-    go (is_marked marks n) (unmarked_there marks (suc n) i ys x found (subst (λ (k : ℕ). is_marked marks k ≡ false) at h))
+    go (is_marked_number marks n) (unmarked_there marks (suc n) i ys x found (subst (λ (k : ℕ). is_marked_number marks k ≡ false) at h))
   where
     at : n + suc i ≡ suc n + i
     at = omega arith
@@ -69,7 +70,7 @@ unmarked_there {A = A} marks n (suc i) (y ∷ ys) x found h =
 pub unmarked_in : {A : Type 0} (marks : List ℕ) (n : ℕ) (xs : List A) (x : A) → IsIn (unmarked_from marks n xs) x → IsIn xs x
 unmarked_in marks n [] x at = absurd (none-some x at.1)
 unmarked_in {A = A} marks n (y ∷ ys) x at =
-    go (is_marked marks n) at (unmarked_in marks (suc n) ys x)
+    go (is_marked_number marks n) at (unmarked_in marks (suc n) ys x)
   where
     later : IsIn ys x → IsIn (y ∷ ys) x
     later there = (suc there.0, there.1)

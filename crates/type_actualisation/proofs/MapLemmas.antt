@@ -11,8 +11,8 @@ use Rattle.sort_terms.specs.ReadingOutcome.{one_name}
 use Rattle.type_definitions.specs.Images.{operation_image}
 use Rattle.type_definitions.specs.ProfiledImage.{profile_in, IsImageProfile}
 use Rattle.type_definitions.specs.ImageLaws.{IsSignatureMap}
-use Rattle.type_definitions.specs.Presentation.{is_same_sort, is_marked, first_position}
-use Rattle.type_definitions.specs.Union.{sort_in, operation_in}
+use Rattle.type_definitions.specs.Presentation.{is_same_sort, is_marked_number, first_position}
+use Rattle.type_definitions.specs.Union.{sort_place_in, operation_place_in}
 use Rattle.type_definitions.specs.UnionLaws.{IsIn}
 use Rattle.type_definitions.specs.Renaming.{pair_for, operation_under}
 use Rattle.type_definitions.specs.Actualisation.{Actualising, actualisation, actualised_sort, actualised_sorts, actualised_operation, actualised_operations, actual_sort, actual_name, actual_operation, formal_sorts_of, formal_operations_of, other_sorts_of, other_operations_of, other_sort_image, other_operation_image, sort_becomes, operation_becomes, operation_renamer, is_actual}
@@ -28,8 +28,8 @@ pub image_there : {A B : Type 0} (f : A → B) (xs : List A) (x : A) → IsIn xs
 image_there {A = A} f xs x at = (at.0, slice_get-map f xs at.0 ∙ ap (λ (o : Option A). option_map f o) at.1)
 
 -- counted from the first
-from_zero : {b : Bool} (marks : List ℕ) (n : ℕ) → is_marked marks n ≡ b → is_marked marks (0 + n) ≡ b
-from_zero marks n is = let zeroth : 0 + n ≡ n = omega arith in ap (λ (k : ℕ). is_marked marks k) zeroth ∙ is
+from_zero : {b : Bool} (marks : List ℕ) (n : ℕ) → is_marked_number marks n ≡ b → is_marked_number marks (0 + n) ≡ b
+from_zero marks n is = let zeroth : 0 + n ≡ n = omega arith in ap (λ (k : ℕ). is_marked_number marks k) zeroth ∙ is
 
 -- ---- The actual types.
 
@@ -54,13 +54,13 @@ actual_is_within a = record {
 
 sort_becomes_one : (a : Actualising) → HasActuals a → (s : ℕ) (x : Sort) → slice_get a.base.presentation.signature.sorts s ≡ Some x
     → sort_becomes a s (Some x) < length (actualised_sorts a)
-sort_becomes_one a has s x found = go (is_marked a.base.presentation.formal_sorts s) refl
+sort_becomes_one a has s x found = go (is_marked_number a.base.presentation.formal_sorts s) refl
   where
     wanted : List ℕ
     wanted = actual_name x.name (pair_for a.pairs.sort_pairs x.name)
 
-    go : (b : Bool) → is_marked a.base.presentation.formal_sorts s ≡ b
-        → (if b then actual_sort a x else sort_in (actualised_sorts a) (Some (other_sort_image a x))) < length (actualised_sorts a)
+    go : (b : Bool) → is_marked_number a.base.presentation.formal_sorts s ≡ b
+        → (if b then actual_sort a x else sort_place_in (actualised_sorts a) (Some (other_sort_image a x))) < length (actualised_sorts a)
     go true is =
         let formal = marked_there a.base.presentation.formal_sorts 0 s a.base.presentation.signature.sorts x found
         (from_zero a.base.presentation.formal_sorts s is) in
@@ -100,13 +100,13 @@ IsThere a number o = (u : Operation) × (slice_get (actualised_operations a) num
 
 operation_becomes_one : (a : Actualising) → HasActuals a → (f : ℕ) (o : Operation)
     → slice_get a.base.presentation.signature.operations f ≡ Some o → IsThere a (operation_becomes a f (Some o)) o
-operation_becomes_one a has f o found = go (is_marked a.base.presentation.formal_operations f) refl
+operation_becomes_one a has f o found = go (is_marked_number a.base.presentation.formal_operations f) refl
   where
     image : Operation
     image = operation_image (actualised_sort a) o
 
-    go : (b : Bool) → is_marked a.base.presentation.formal_operations f ≡ b
-        → IsThere a (if b then actual_operation a o else operation_in (actualised_operations a) (Some (other_operation_image a o))) o
+    go : (b : Bool) → is_marked_number a.base.presentation.formal_operations f ≡ b
+        → IsThere a (if b then actual_operation a o else operation_place_in (actualised_operations a) (Some (other_operation_image a o))) o
     go true is =
         let formal = marked_there a.base.presentation.formal_operations 0 f a.base.presentation.signature.operations o found
         (from_zero a.base.presentation.formal_operations f is) in

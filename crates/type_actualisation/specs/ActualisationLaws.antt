@@ -3,7 +3,7 @@ use Rattle.std.specs.Prelude.{◌≡◌, true, None}
 use Rattle.lotos_base.specs.Equation.{IsWellFormedData}
 use Rattle.sort_terms.specs.WellFormedTest.{all_differ, are_one_sort, are_one_operation}
 use Rattle.type_definitions.specs.ImageLaws.{IsSignatureMap}
-use Rattle.type_definitions.specs.Flattened.{data_of}
+use Rattle.type_definitions.specs.Flattened.{flattened_data_of}
 use Rattle.type_definitions.specs.Actualisation.{Actualising, actualisation, actualised_sort, actualised_operation, formal_sorts_of, formal_operations_of}
 use Rattle.type_definitions.specs.ActualisationFaults.{formal_sort_fault, formal_operation_fault}
 
@@ -17,6 +17,7 @@ pub record ActualisedDataAreWellFormed : Type 0 where
   pub base_goes : (a : Actualising) → HasActuals a
       → IsSignatureMap a.base.presentation.signature (actualisation a).signature (actualised_sort a) (actualised_operation a)
   -- its data are well formed where nothing clashes
-  pub well_formed : (a : Actualising) → HasActuals a → IsWellFormedData (data_of a.base.presentation) → IsWellFormedData (data_of a.actual)
+  pub well_formed : (a : Actualising) → HasActuals a → IsWellFormedData (flattened_data_of a.base.presentation)
+      → IsWellFormedData (flattened_data_of a.actual)
       → all_differ are_one_sort (actualisation a).signature.sorts ≡ true
-      → all_differ are_one_operation (actualisation a).signature.operations ≡ true → IsWellFormedData (data_of (actualisation a))
+      → all_differ are_one_operation (actualisation a).signature.operations ≡ true → IsWellFormedData (flattened_data_of (actualisation a))

@@ -2,7 +2,7 @@
 use Rattle.std.specs.Prelude.{◌≡◌, ℕ, true, List}
 use Rattle.lotos_base.specs.Equation.{IsWellFormedData}
 use Rattle.sort_terms.specs.WellFormedTest.{all_differ, are_one_sort, are_one_operation}
-use Rattle.type_definitions.specs.Flattened.{data_of}
+use Rattle.type_definitions.specs.Flattened.{flattened_data_of}
 use Rattle.type_definitions.specs.Actualisation.{Actualising, actualised_sort, actualised_sorts, actualised_operation, actualised_operations}
 use Rattle.type_definitions.specs.ProfiledImage.{number_in}
 use Rattle.type_presentations.specs.SortListView.{HasSortKeys, sorts_in}
@@ -27,7 +27,7 @@ pub record IsBrought (a : Actualising) (base p : Presentation) (sorts operations
   pub base_is : a.base.presentation ≡ presentation_of base
   pub base_sound : IsSound base
   pub has : HasActuals a
-  pub actual_data : IsWellFormedData (data_of a.actual)
+  pub actual_data : IsWellFormedData (flattened_data_of a.actual)
   pub keyed : IsKeyed p
   pub sorts_are : sorts_in p.sorts ≡ actualised_sorts a
   pub operations_are : operations_in p.ops ≡ actualised_operations a

@@ -4,3 +4,6 @@ pub mod Indexed
 pub mod ActualisationLaws
 pub mod Brought
 pub mod NewNumbersView
+pub mod FormalLists
+pub mod FormalTypesView
+pub mod HandedOn

@@ -8,7 +8,7 @@ use Rattle.type_definitions.specs.FaultView.{IsFaultFound}
 use Rattle.type_definitions.specs.declared.type_faults.TypeFault.{TypeFault as CodeFault}
 use Rattle.type_definitions.specs.TypeFault.{TypeFault, double_operation, double_sort, first_fault, too_large}
 use Rattle.type_definitions.specs.Presentation.{is_too_large}
-use Rattle.type_definitions.specs.Flattened.{data_of}
+use Rattle.type_definitions.specs.Flattened.{flattened_data_of}
 use Rattle.type_definitions.specs.Actualisation.{Actualising, actualisation, formal_operations_of, formal_sorts_of}
 use Rattle.type_definitions.specs.ActualisationFaults.{coming_fault, formal_operation_fault, formal_sort_fault}
 use Rattle.actual_members.specs.HandedOn.{pairs_in}
@@ -75,7 +75,7 @@ pub record HaveCome (a : Actualising) (base p : Presentation) (came_sorts came_o
   pub base_is : a.base.presentation ≡ presentation_of base
   pub base_sound : IsSound base
   pub has : HasActuals a
-  pub actual_data : IsWellFormedData (data_of a.actual)
+  pub actual_data : IsWellFormedData (flattened_data_of a.actual)
   pub actual_within : is_too_large a.actual ≡ false
   pub keyed : IsKeyed p
   pub equations_are : equations_in p.equations ≡ a.actual.equations

@@ -2,7 +2,7 @@
 
 ghost use Rattle.std.specs.Prelude.{◌≡◌, IfOk, None, Some, option_map};
 ghost use Rattle.lotos_base.specs.WrittenView.{placed_name_of};
-ghost use Rattle.lotos_rows.specs.Renamings.{pair_for};
+ghost use Rattle.lotos_rows.specs.Renamings.{pair_of_names};
 ghost use Rattle.syntax_trees.specs.TreeViews.{pair_of};
 ghost use Rattle.ll_engine.specs.Run.{from_last};
 ghost use Rattle.tree_building.specs.MeaningView.{meaning};
@@ -19,7 +19,7 @@ use tree_building::value::{Value, take};
 
 /// The pair of two names.
 fn pair(given: Named, replaced: Named) -> PairText
-    ensures { pair_of result ≡ pair_for (placed_name_of given) (placed_name_of replaced) }
+    ensures { pair_of result ≡ pair_of_names (placed_name_of given) (placed_name_of replaced) }
 {
     PairText {
         place: given.0,

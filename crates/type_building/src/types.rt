@@ -3,7 +3,7 @@
 ghost use Rattle.std.specs.Prelude.{◌≡◌, ◌++◌, ◌∷◌, [], IfOk, OnOk, Some, map, option_map, reverse};
 ghost use Rattle.lotos_base.specs.WrittenView.{placed_name_of};
 ghost use Rattle.lotos_rows.specs.Types.{no_equations, operations_of_profile};
-ghost use Rattle.syntax_trees.specs.TreeViews.{equations_of, item_of, operation_of};
+ghost use Rattle.syntax_trees.specs.TreeViews.{equations_of, item_of, written_operation_of};
 ghost use Rattle.syntax_trees.specs.WrittenItem.{type_declared};
 ghost use Rattle.lotos_base.specs.Name.{spelling};
 ghost use Rattle.ll_engine.specs.Run.{from_last};
@@ -12,7 +12,7 @@ ghost use Rattle.tree_building.specs.NamesViews.{named_operation_of, profile_of}
 ghost use Rattle.tree_building.specs.RowMeaning.{types_row_means};
 ghost use Rattle.tree_building.specs.TypesMeaning.{actualisation_after_base, body_from, equation_section, extension_after_base, item_before_items, library_item, line_before_lines, named_body, no_equation_section, operation_before_operations, renaming_after_base, sections_body, sections_of_parts, type_item};
 ghost use Rattle.tree_building.specs.Meaning.{some_sections};
-ghost use Rattle.tree_building.specs.TypesViews.{after_base_of, sections_of, type_body_of};
+ghost use Rattle.tree_building.specs.TypesViews.{after_base_of, written_sections_of, written_type_body_of};
 ghost use Rattle.lotos_base.specs.WrittenView.{text_place_of};
 
 use lotos_base::Name;
@@ -48,7 +48,7 @@ fn library(alloc: Global, token: Option<Token>, parts: &mut Vec<Value>) -> Built
 #[tactic(auto, using(tree_building::proofs::FromLast::map_reverse))]
 fn declared(name: Named, body: TypeBody) -> ItemText
     ensures { item_of result ≡ type_declared (text_place_of name.0) (spelling name.1)
-        (type_body_of body) }
+        (written_type_body_of body) }
 {
     let place = name.0;
     let name = name.1;
@@ -99,7 +99,7 @@ fn type_with_name(alloc: Global, parts: &mut Vec<Value>) -> Built
 /// The body of a first name and what stands behind it.
 #[tactic(auto, using(tree_building::proofs::FromLast::from_last_more))]
 fn body_of_base(base: Named, after: AfterBase) -> Result<TypeBody, AllocError>
-    ensures { IfOk result (λ body. type_body_of body
+    ensures { IfOk result (λ body. written_type_body_of body
         ≡ body_from (placed_name_of base) (after_base_of after)) }
 {
     match after {
@@ -159,7 +159,7 @@ fn extended(parts: &mut Vec<Value>) -> Option<Value>
 
 #[tactic(auto, using(tree_building::proofs::FromLast::map_reverse))]
 fn sections(parts: &mut Vec<Value>) -> Option<Sections>
-    ensures { option_map (λ it. some_sections (sections_of it)) result
+    ensures { option_map (λ it. some_sections (written_sections_of it)) result
         ≡ sections_of_parts (from_last meaning parts.old.items) }
 {
     let formal_sorts = take::<Vec<Named>>(parts)?;
@@ -194,7 +194,7 @@ fn operation_of_profile(
     operation: NamedOp,
     profile: &OpProfile,
 ) -> Result<OpText, AllocError>
-    ensures { IfOk result (λ it. operation_of it ∷ []
+    ensures { IfOk result (λ it. written_operation_of it ∷ []
         ≡ operations_of_profile (named_operation_of operation ∷ []) (profile_of profile.now)) }
 {
     Ok(OpText {
@@ -214,9 +214,9 @@ fn add_operations(
     profile: &OpProfile,
     operations: &mut Vec<OpText>,
 ) -> Result<(), AllocError>
-    ensures { OnOk result (from_last operation_of operations.new.items
+    ensures { OnOk result (from_last written_operation_of operations.new.items
         ≡ operations_of_profile (from_last named_operation_of names.items) (profile_of profile.now)
-        ++ from_last operation_of operations.old.items) }
+        ++ from_last written_operation_of operations.old.items) }
 {
     for operation in names {
         operations.push(operation_of_profile(alloc, operation, profile)?)?;

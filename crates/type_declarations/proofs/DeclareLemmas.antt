@@ -269,11 +269,6 @@ number_within names name n top found some is few = go (list_any (λ (m : List �
 
 -- ---- One part after the other.
 
-pub second_fails : (a b rest : Option TypeFault) (fault : TypeFault) → a ≡ None → b ≡ Some fault
-    → first_fault a (first_fault b rest) ≡ Some fault
-second_fails a b rest fault one found =
-    ap (λ (o : Option TypeFault). first_fault o (first_fault b rest)) one ∙ ap (λ (o : Option TypeFault). first_fault o rest) found
-
 pub later_fails : (a rest : Option TypeFault) (fault : TypeFault) → a ≡ None → rest ≡ Some fault → first_fault a rest ≡ Some fault
 later_fails a rest fault one found = ap (λ (o : Option TypeFault). first_fault o rest) one ∙ found
 

@@ -17,7 +17,7 @@ ghost use Rattle.std.specs.Prelude.{
   length,
   map,
 };
-ghost use Rattle.syntax_trees.specs.TreeViews.{operation_of as written_operation_of};
+ghost use Rattle.syntax_trees.specs.TreeViews.{written_operation_of};
 ghost use Rattle.type_declarations.specs.DeclaredOperation.{
   AreFewDeclaredNames,
   declared_operation,

@@ -5,8 +5,8 @@ use Rattle.sort_terms.specs.RefusalView.{UnlessNoMemory}
 use Rattle.sort_terms.specs.declared.sort_faults.SortFault.{SortFault}
 use Rattle.sort_terms.specs.declared.sort_faults.SortFault.TheVariants as sort
 use Rattle.type_definitions.specs.TypeFault as plain
-use Rattle.type_definitions.specs.DeclaredEquations.{fault_of}
-use Rattle.type_definitions.specs.FaultView.{HoldsOfFault, HoldsOfTerm, fault_of_term}
+use Rattle.type_definitions.specs.DeclaredEquations.{type_fault_of}
+use Rattle.type_definitions.specs.FaultView.{HoldsOfFault, HoldsOfTerm, type_fault_of_term}
 use Rattle.type_definitions.specs.declared.type_faults.TypeFault.{TypeFault}
 use Rattle.type_definitions.specs.declared.type_faults.TypeFault.TheVariants.{DoubleType, UnknownType, TypeCycle, DoubleSort, UnknownSort, DoubleOperation, UnknownOperation, NotFormal, MissingActual, TooLarge, Premised, Term, NoMemory}
 
@@ -36,8 +36,8 @@ holds_weaker P Q (Term fault) weaker holds = of_term P Q fault weaker holds
 holds_weaker P Q NoMemory weaker holds = holds
 
 -- the fault of a term that was refused
-pub refused_term : (P : plain.TypeFault → Type 0) (fault : SortFault) → UnlessNoMemory fault (λ (r : ReadingRefusal). P (fault_of r))
-    → HoldsOfFault (fault_of_term fault) P
+pub refused_term : (P : plain.TypeFault → Type 0) (fault : SortFault) → UnlessNoMemory fault (λ (r : ReadingRefusal). P (type_fault_of r))
+    → HoldsOfFault (type_fault_of_term fault) P
 refused_term P (sort.UnknownName place) holds = holds
 refused_term P (sort.UnknownSort place) holds = holds
 refused_term P (sort.NoReading place) holds = holds

@@ -9,8 +9,8 @@ use Rattle.std.proofs.lemmas.List.Elements.{All-nil, All-push, All-pop, All-weak
 use Rattle.std.proofs.lemmas.List.Sums.{sum_by-set}
 use Rattle.std.proofs.lemmas.Option.{slice_get-get_or, slice_get_within, get_or_from_slice_get}
 use Rattle.type_definitions.specs.TypeGraph.{is_among, mentioned_by, Mentions, IsWithin, MentionsLead, leads_at_once, IsOnCycle, HasCycle}
-use Rattle.type_definitions.specs.FlatteningOrder.{ComesTo, flattened_already, flattened_now, ComesToEach, next_come_to}
-use Rattle.type_definitions.specs.ProgressTests.{is_unseen, is_open, is_done}
+use Rattle.type_definitions.specs.FlatteningOrder.{FlatteningComesTo, flattened_already, flattened_now, ComesToEach, next_come_to}
+use Rattle.type_definitions.specs.ProgressTests.{is_unseen, is_in_progress, is_done}
 use Rattle.type_definitions.specs.Walking.{progress_at, work_left, IsSorted, none_sorted, one_sorted, IsFrame, IsChain, waiting_numbers, IsTypeWalk, Finishes, Runs, WalkStarts, GoesOn, IsNextMention, HasNoNext}
 use Rattle.type_definitions.specs.declared.walk.Frame.{Frame}
 use Rattle.type_definitions.specs.declared.walk.Progress.{Progress}
@@ -41,13 +41,13 @@ done_is Done e = refl
 pub not_done : (s : Progress) → false ≡ is_done s → ¬ (s ≡ Done)
 not_done s e same = let both : false ≡ true = e ∙ ap is_done same in cc
 
-pub open_is : (s : Progress) → true ≡ is_open s → s ≡ Open
+pub open_is : (s : Progress) → true ≡ is_in_progress s → s ≡ Open
 open_is Unseen e = cc
 open_is Open e = refl
 open_is Done e = cc
 
-pub not_open : (s : Progress) → false ≡ is_open s → ¬ (s ≡ Open)
-not_open s e same = let both : false ≡ true = e ∙ ap is_open same in cc
+pub not_open : (s : Progress) → false ≡ is_in_progress s → ¬ (s ≡ Open)
+not_open s e same = let both : false ≡ true = e ∙ ap is_in_progress same in cc
 
 -- ---- Chains.
 
@@ -275,11 +275,6 @@ with_next f position = record { number = f.number; next = position }
 abbrev pub first_frame_of : ℕ → Frame
 first_frame_of m = record { number = m; next = 0 }
 
-next_mention : (graph : List (List ℕ)) (n position m : ℕ) → position < length (mentioned_by graph n)
-    → m ≡ get_or (mentioned_by graph n) position m → slice_get (mentioned_by graph n) position ≡ Some m
-next_mention graph n position m inside is =
-    slice_get-get_or (mentioned_by graph n) position m inside ∙ ap (λ (k : ℕ). Some k) (sym is)
-
 runs_next : (graph : List (List ℕ)) (p : List Progress) (order : List ℕ) (stack : List Frame) (f : Frame) (position m : ℕ)
     → IsTypeWalk graph p order (stack ++ f ∷ []) → IsNextMention (mentioned_by graph f.number) p f.next position
     → get_or (mentioned_by graph f.number) position 0 ≡ m → progress_at p m ≡ Unseen → (all : List ℕ)
@@ -298,8 +293,8 @@ runs_next graph p order stack f position m w next is unseen all r =
     let same : split.0 ≡ one.0 = done_already graph one.0 m split.0 split.1 m_done in
     let later : ComesToEach graph one.0 (drop (suc position) ms) two.1.0 =
     subst (λ (xs : List ℕ). ComesToEach graph xs (drop (suc position) ms) two.1.0) same split.2 in
-    let now : ComesTo graph order m one.0 =
-    subst (λ (xs : List ℕ). ComesTo graph order m xs) one.1.2
+    let now : FlatteningComesTo graph order m one.0 =
+    subst (λ (xs : List ℕ). FlatteningComesTo graph order m xs) one.1.2
     (flattened_now order one.1.0 m (unseen_not_done graph p order (stack ++ f ∷ []) m w unseen) one.1.1) in
     let from_position : ComesToEach graph order (drop position ms) two.1.0 =
     subst (λ (xs : List ℕ). ComesToEach graph order xs two.1.0) (sym cut)
@@ -393,7 +388,7 @@ pub starts_done : (graph : List (List ℕ)) (p : List Progress) (order : List �
     → IsTypeWalk graph p order [] → progress_at p root ≡ Done → WalkStarts graph p order root stack
 starts_done graph p order root stack empty w is = subst (λ (xs : List Frame). WalkStarts graph p order root xs) (sym empty) (record {
   walk = w;
-  runs = λ all e. subst (λ (xs : List ℕ). ComesTo graph order root xs) e (flattened_already order root (w.done root is));
+  runs = λ all e. subst (λ (xs : List ℕ). FlatteningComesTo graph order root xs) e (flattened_already order root (w.done root is));
 })
 
 pub starts_now : (graph : List (List ℕ)) (p : List Progress) (order : List ℕ) (root : ℕ) (stack : List Frame)
@@ -403,7 +398,7 @@ starts_now graph p order root stack is w type_ waits =
     subst (λ (xs : List Frame). WalkStarts graph (set p root Open) order root xs) (sym is) (record {
       walk = waits_now graph p order [] root w type_ unseen (λ i h. among_none i h);
       runs = λ all run.
-          subst (λ (xs : List ℕ). ComesTo graph order root xs) run.2.2
+          subst (λ (xs : List ℕ). FlatteningComesTo graph order root xs) run.2.2
           (flattened_now order run.2.0 root (unseen_not_done graph p order [] root w unseen)
           (subst (λ (xs : List ℕ). ComesToEach graph xs (mentioned_by graph root) run.2.0) (sym run.1) run.2.1));
     })

@@ -9,7 +9,7 @@ use Rattle.lotos_base.specs.Names.{folded}
 use Rattle.sort_terms.specs.Positions.{positions_from, positions_of}
 use Rattle.type_definitions.specs.DeclaredTypes.{DeclaredType, is_type_name, type_number}
 use Rattle.type_definitions.specs.MentionFaults.{second_declaration, AreDeclaredOnce}
-use Rattle.type_definitions.specs.NameFaultView.{IsDouble, IsNameTaken, IsNameFault}
+use Rattle.type_definitions.specs.NameFaultView.{IsDouble, IsNameTaken}
 use Rattle.type_definitions.specs.TypeNamesView.{IsNumberOf}
 use Rattle.type_definitions.specs.TypeView.{declared_type_of, declared_types_of, type_spellings}
 use Rattle.type_definitions.specs.declared.name_faults.TypeNameFault.{TypeNameFault}
@@ -137,10 +137,3 @@ second_of_name types n t o (DoubleType place name) within is at so_far taken = (
         ∙ ap (λ (u : TypeText). second_declaration (declared_types_of (take n types))
         (declared_type_of u ∷ declared_types_of (drop (n + 1) types))) (sym is)
         ∙ step
-
-pub double_fault : (types : List DeclaredType) (fault : TypeNameFault) → IsDouble (second_declaration [] types) fault
-    → IsNameFault types fault
-double_fault types (DoubleType place name) h = h
-double_fault types (UnknownType place name) h = absurd h
-double_fault types (TypeCycle place name) h = absurd h
-double_fault types NoMemory h = tt

@@ -4,7 +4,7 @@ use Rattle.std.specs.Prelude.{nat_eq}
 use Rattle.std.proofs.Math.Seq.{drop-cons}
 use Rattle.std.proofs.lemmas.Bool.{eq-eqb, both_ways, or_left, or_right}
 use Rattle.type_definitions.specs.TypeGraph.{is_among, mentioned_by, Mentions, MentionsLead, leads_at_once, leads_on, IsOnCycle, IsAcyclic}
-use Rattle.type_definitions.specs.FlatteningOrder.{ComesTo, flattened_already, flattened_now, ComesToEach, none_left, next_come_to}
+use Rattle.type_definitions.specs.FlatteningOrder.{FlatteningComesTo, flattened_already, flattened_now, ComesToEach, none_left, next_come_to}
 use Rattle.type_definitions.specs.Walking.{IsSorted, none_sorted, one_sorted, Finishes, Runs}
 use Rattle.type_definitions.specs.declared.walk.Frame.{Frame}
 use Rattle.type_definitions.proofs.NumberLists.{not_true, among_none, among_left, among_right, among_cases, among_one, one_among, mentioner_within}
@@ -12,14 +12,14 @@ use Rattle.type_definitions.proofs.NumberLists.{not_true, among_none, among_left
 -- ---- Coming to types.
 
 -- what is done is not come to again
-pub done_already : (graph : List (List ℕ)) (done : List ℕ) (i : ℕ) (all : List ℕ) → ComesTo graph done i all
+pub done_already : (graph : List (List ℕ)) (done : List ℕ) (i : ℕ) (all : List ℕ) → FlatteningComesTo graph done i all
     → is_among done i ≡ true → all ≡ done
 done_already graph done i all (flattened_already _ _ is) h = refl
 done_already graph done i all (flattened_now _ more _ is each) h = absurd (both_ways (is_among done i) is h)
 
 mutual
   -- what is done stays so
-  pub stays_done : (graph : List (List ℕ)) (done : List ℕ) (i : ℕ) (all : List ℕ) (j : ℕ) → ComesTo graph done i all
+  pub stays_done : (graph : List (List ℕ)) (done : List ℕ) (i : ℕ) (all : List ℕ) (j : ℕ) → FlatteningComesTo graph done i all
       → is_among done j ≡ true → is_among all j ≡ true
   stays_done graph done i all j (flattened_already _ _ is) h = h
   stays_done graph done i all j (flattened_now _ more _ is each) h =
@@ -32,7 +32,7 @@ mutual
       stay_done graph more rest all j later (stays_done graph done i more j now h)
 
 -- what was come to is done
-pub is_done : (graph : List (List ℕ)) (done : List ℕ) (i : ℕ) (all : List ℕ) → ComesTo graph done i all → is_among all i ≡ true
+pub is_done : (graph : List (List ℕ)) (done : List ℕ) (i : ℕ) (all : List ℕ) → FlatteningComesTo graph done i all → is_among all i ≡ true
 is_done graph done i all (flattened_already _ _ is) = is
 is_done graph done i all (flattened_now _ more _ is each) = among_right more (i ∷ []) i (one_among i i refl)
 
@@ -63,7 +63,7 @@ pass_over graph (suc count) from to numbers done all at within are each =
     (pass_over graph count (suc from) to numbers done all further within (λ k above below. are k (omega arith) below) each))
 
 pub each_first : (graph : List (List ℕ)) (done : List ℕ) (i : ℕ) (numbers all : List ℕ) → ComesToEach graph done (i ∷ numbers) all
-    → (more : List ℕ) × ComesTo graph done i more × ComesToEach graph more numbers all
+    → (more : List ℕ) × FlatteningComesTo graph done i more × ComesToEach graph more numbers all
 each_first graph done i numbers all (next_come_to _ more _ _ _ now later) = (more, now, later)
 
 -- ---- What runs on for the types that wait.

@@ -7,7 +7,7 @@ use Rattle.std.proofs.lemmas.List.{length-map, get_or-map, get_or_past}
 use Rattle.lotos_base.proofs.Members.{at_map}
 use Rattle.lotos_base.specs.WrittenTerm.{PlacedName}
 use Rattle.type_definitions.specs.DeclaredTypes.{DeclaredType, mentions_in, is_type_name, type_number, type_numbers, mention_graph}
-use Rattle.type_definitions.specs.MentionFaults.{unknown_among, unknown_mention, first_of, AreDeclaredOnce, AreAllKnown, mentions_of, mention_at}
+use Rattle.type_definitions.specs.MentionFaults.{unknown_among, unknown_mention, earlier_of_two, AreDeclaredOnce, AreAllKnown, mentions_of_type, mention_at}
 use Rattle.type_definitions.specs.NameFaultView.{IsNameUnknown, IsNameFault, IsCycleAt}
 use Rattle.type_definitions.specs.TypeGraph.{is_among, mentioned_by, Mentions, IsWithin, IsMention, IsFirstMentionOnCycle}
 use Rattle.type_definitions.specs.TypeView.{declared_type_of, declared_types_of, type_body_of}
@@ -16,55 +16,6 @@ use Rattle.type_definitions.proofs.NumberLists.{among_none, among_at, mentioner_
 use Rattle.type_definitions.proofs.NameLemmas.{number_within}
 use Rattle.type_definitions.specs.declared.name_faults.TypeNameFault.{TypeNameFault}
 use Rattle.type_definitions.specs.declared.name_faults.TypeNameFault.TheVariants.{DoubleType, UnknownType, TypeCycle, NoMemory}
-
--- ---- One mention more.
-
-pub known_one : (types : List DeclaredType) (m : PlacedName) → is_type_name types m.name ≡ true → unknown_among types (m ∷ []) ≡ None
-known_one types m h = rw h refl
-
-pub unknown_one : (types : List DeclaredType) (m : PlacedName) → is_type_name types m.name ≡ false
-    → unknown_among types (m ∷ []) ≡ Some m
-unknown_one types m h = rw h refl
-
-pub known_before : (types : List DeclaredType) (m : PlacedName) (ms : List PlacedName) → unknown_among types (m ∷ []) ≡ None
-    → unknown_among types (m ∷ ms) ≡ unknown_among types ms
-known_before types m ms none = go (is_type_name types m.name) refl
-  where
-    go : (b : Bool) → is_type_name types m.name ≡ b → unknown_among types (m ∷ ms) ≡ unknown_among types ms
-    go true is = rw is refl
-    go false is = absurd (none-some m (sym none ∙ unknown_one types m is))
-
-pub unknown_first : (types : List DeclaredType) (m n : PlacedName) (ms : List PlacedName) → unknown_among types (m ∷ []) ≡ Some n
-    → unknown_among types (m ∷ ms) ≡ Some n
-unknown_first types m n ms some = go (is_type_name types m.name) refl
-  where
-    go : (b : Bool) → is_type_name types m.name ≡ b → unknown_among types (m ∷ ms) ≡ Some n
-    go true is = absurd (none-some n (sym (known_one types m is) ∙ some))
-    go false is = let same : Some m ≡ Some n = sym (unknown_one types m is) ∙ some in rw is same
-
--- a fault at the first one is one of all
-pub fault_first : (types : List DeclaredType) (m : PlacedName) (ms : List PlacedName) (fault : TypeNameFault)
-    → IsNameUnknown (unknown_among types (m ∷ [])) fault → IsNameUnknown (unknown_among types (m ∷ ms)) fault
-fault_first types m ms (DoubleType place name) h = absurd h
-fault_first types m ms (UnknownType place name) h = unknown_first types m _ ms h
-fault_first types m ms (TypeCycle place name) h = absurd h
-fault_first types m ms NoMemory h = tt
-
-pub fault_along : (o p : Option PlacedName) (fault : TypeNameFault) → o ≡ p → IsNameUnknown o fault → IsNameUnknown p fault
-fault_along o p fault e h = subst (λ (x : Option PlacedName). IsNameUnknown x fault) e h
-
--- ---- One type more.
-
-pub known_type : (types : List DeclaredType) (t : DeclaredType) (ts : List DeclaredType) → unknown_among types (mentions_in t.body) ≡ None
-    → unknown_mention types (t ∷ ts) ≡ unknown_mention types ts
-known_type types t ts none = ap (λ (o : Option PlacedName). first_of o (unknown_mention types ts)) none
-
-pub fault_type : (types : List DeclaredType) (t : DeclaredType) (ts : List DeclaredType) (fault : TypeNameFault)
-    → IsNameUnknown (unknown_among types (mentions_in t.body)) fault → IsNameUnknown (unknown_mention types (t ∷ ts)) fault
-fault_type types t ts (DoubleType place name) h = absurd h
-fault_type types t ts (UnknownType place name) h = ap (λ (o : Option PlacedName). first_of o (unknown_mention types ts)) h
-fault_type types t ts (TypeCycle place name) h = absurd h
-fault_type types t ts NoMemory h = tt
 
 -- ---- Faults.
 
@@ -102,7 +53,7 @@ numbers_within types (m ∷ ms) j none h =
         ]
     go false is rest = let some : Some m ≡ None = rw is at none in absurd (none-some m (sym some))
 
-both_none : {A : Type 0} (o p : Option A) → first_of o p ≡ None → (o ≡ None) × (p ≡ None)
+both_none : {A : Type 0} (o p : Option A) → earlier_of_two o p ≡ None → (o ≡ None) × (p ≡ None)
 both_none None p e = (refl, e)
 both_none (Some x) p e = absurd (none-some x (sym e))
 
@@ -151,7 +102,7 @@ mention_read types xs by position d same f =
     (λ (ys : List TypeText). mention_at (declared_types_of types) by position
     ≡ slice_get (mentions_in (type_body_of (get_or ys by d).body.now)) position)
     (sym same)
-    (ap (λ (o : Option DeclaredType). slice_get (mentions_of o) position)
+    (ap (λ (o : Option DeclaredType). slice_get (mentions_of_type o) position)
     (at_map declared_type_of types by (get_or types by d) (slice_get-get_or types by d within)))
   where
     as_many : length (mention_graph (declared_types_of types)) ≡ length types

@@ -14,7 +14,7 @@ use Rattle.lotos_base.specs.Equation.{Equation}
 use Rattle.lotos_base.proofs.TestLemmas.{Decides-term_eq}
 use Rattle.sort_terms.proofs.NodeLemmas.{eq_forms}
 use Rattle.type_definitions.specs.Presentation.{Presentation, is_same_sort, is_same_operation, is_same_equation, with_new, first_position}
-use Rattle.type_definitions.specs.Union.{joined, joined_sort, joined_sorts, joined_operation, joined_operations, coming_operations, sort_in, operation_in}
+use Rattle.type_definitions.specs.Union.{joined_presentation, joined_sort, joined_sorts, joined_operation, joined_operations, coming_operations, sort_place_in, operation_place_in}
 use Rattle.type_definitions.specs.UnionLaws.{IsIn, KeepsFirstAppearances, FirstAppearancesAreKept, UnionsKeepAndAdd}
 
 -- ---- Lists.
@@ -152,12 +152,12 @@ unions = record {
   sorts_come = λ p q i s found.
       let at = first_appearances.sorts.comes p.signature.sorts q.signature.sorts s (i, found) in
       let there : slice_get (joined_sorts p q) (joined_sort p q i) ≡ Some at.0 =
-      ap (λ (o : Option Sort). slice_get (joined_sorts p q) (sort_in (joined_sorts p q) o)) found ∙ at.1 in
+      ap (λ (o : Option Sort). slice_get (joined_sorts p q) (sort_place_in (joined_sorts p q) o)) found ∙ at.1 in
       (at.0, there, at.2);
   operations_come = λ p q i o found.
       let at = first_appearances.operations.comes p.signature.operations (coming_operations p q) o (i, found) in
       let there : slice_get (joined_operations p q) (joined_operation p q i) ≡ Some at.0 =
-      ap (λ (x : Option Operation). slice_get (joined_operations p q) (operation_in (joined_operations p q) x)) found ∙ at.1 in
+      ap (λ (x : Option Operation). slice_get (joined_operations p q) (operation_place_in (joined_operations p q) x)) found ∙ at.1 in
       (at.0, there, at.2);
   no_other_sorts = λ p q s at. first_appearances.sorts.adds_nothing p.signature.sorts q.signature.sorts s at;
   no_other_operations = λ p q o at. first_appearances.operations.adds_nothing p.signature.operations (coming_operations p q) o at;

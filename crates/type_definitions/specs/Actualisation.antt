@@ -9,9 +9,9 @@ use Rattle.lotos_base.specs.Equation.{Equation}
 use Rattle.lotos_base.specs.Twins.{form_eq}
 use Rattle.syntax_trees.specs.WrittenItem.{WrittenPair, WrittenPairs}
 use Rattle.sort_terms.specs.ReadingOutcome.{one_name}
-use Rattle.type_definitions.specs.Presentation.{Presentation, is_same_sort, is_same_operation, is_same_equation, with_new, first_position, is_marked}
+use Rattle.type_definitions.specs.Presentation.{Presentation, is_same_sort, is_same_operation, is_same_equation, with_new, first_position, is_marked_number}
 use Rattle.type_definitions.specs.Images.{operation_image, equation_image}
-use Rattle.type_definitions.specs.Union.{Mentioned, sort_in, operation_in}
+use Rattle.type_definitions.specs.Union.{Mentioned, sort_place_in, operation_place_in}
 use Rattle.type_definitions.specs.Declarations.{sort_numbered}
 use Rattle.type_definitions.specs.Renaming.{pair_for, sort_under, operation_under}
 
@@ -28,13 +28,13 @@ pub record Actualising : Type 0 where
 abbrev pub marked_from : {A : Type 0} → List ℕ → ℕ → List A → List A
 marked_from marks number [] = []
 marked_from marks number (x ∷ xs) =
-    if is_marked marks number then x ∷ marked_from marks (suc number) xs else marked_from marks (suc number) xs
+    if is_marked_number marks number then x ∷ marked_from marks (suc number) xs else marked_from marks (suc number) xs
 
 -- the others
 abbrev pub unmarked_from : {A : Type 0} → List ℕ → ℕ → List A → List A
 unmarked_from marks number [] = []
 unmarked_from marks number (x ∷ xs) =
-    if is_marked marks number then unmarked_from marks (suc number) xs else x ∷ unmarked_from marks (suc number) xs
+    if is_marked_number marks number then unmarked_from marks (suc number) xs else x ∷ unmarked_from marks (suc number) xs
 
 abbrev pub formal_sorts_of : Presentation → List Sort
 formal_sorts_of p = marked_from p.formal_sorts 0 p.signature.sorts
@@ -63,18 +63,18 @@ is_formal_operation p name = list_any (λ (o : Operation). one_name o.name name)
 -- ---- Pairs. One with the old name of something formal names the actual one, and renames nothing.
 
 -- the pair, unless the test says that it renames nothing
-abbrev pub unless : Bool → Option WrittenPair → Option WrittenPair
-unless true pair = None
-unless false pair = pair
+abbrev pub pair_unless : Bool → Option WrittenPair → Option WrittenPair
+pair_unless true pair = None
+pair_unless false pair = pair
 
 -- the pair that renames a sort that is not formal
 abbrev pub sort_renamer : Actualising → Sort → Option WrittenPair
-sort_renamer a sort = unless (is_formal_sort a.base.presentation sort.name) (pair_for a.pairs.sort_pairs sort.name)
+sort_renamer a sort = pair_unless (is_formal_sort a.base.presentation sort.name) (pair_for a.pairs.sort_pairs sort.name)
 
 -- the pair that renames an operation that is not formal
 abbrev pub operation_renamer : Actualising → Operation → Option WrittenPair
 operation_renamer a operation =
-    unless (is_formal_operation a.base.presentation operation.name) (pair_for a.pairs.operation_pairs operation.name)
+    pair_unless (is_formal_operation a.base.presentation operation.name) (pair_for a.pairs.operation_pairs operation.name)
 
 -- the name that something formal has among the actual types
 abbrev pub actual_name : List ℕ → Option WrittenPair → List ℕ
@@ -99,9 +99,9 @@ actual_sort a sort = sort_numbered a.actual (actual_name sort.name (pair_for a.p
 abbrev pub sort_becomes : Actualising → ℕ → Option Sort → ℕ
 sort_becomes a number None = 0
 sort_becomes a number (Some sort) =
-    if is_marked a.base.presentation.formal_sorts number
+    if is_marked_number a.base.presentation.formal_sorts number
     then actual_sort a sort
-    else sort_in (actualised_sorts a) (Some (other_sort_image a sort))
+    else sort_place_in (actualised_sorts a) (Some (other_sort_image a sort))
 
 abbrev pub actualised_sort : Actualising → ℕ → ℕ
 actualised_sort a number = sort_becomes a number (slice_get a.base.presentation.signature.sorts number)
@@ -146,9 +146,9 @@ actual_operation a formal =
 abbrev pub operation_becomes : Actualising → ℕ → Option Operation → ℕ
 operation_becomes a number None = 0
 operation_becomes a number (Some operation) =
-    if is_marked a.base.presentation.formal_operations number
+    if is_marked_number a.base.presentation.formal_operations number
     then actual_operation a operation
-    else operation_in (actualised_operations a) (Some (other_operation_image a operation))
+    else operation_place_in (actualised_operations a) (Some (other_operation_image a operation))
 
 abbrev pub actualised_operation : Actualising → ℕ → ℕ
 actualised_operation a number = operation_becomes a number (slice_get a.base.presentation.signature.operations number)

@@ -10,8 +10,8 @@ use Rattle.type_definitions.specs.Presentation.{Presentation}
 use Rattle.type_definitions.specs.Union.{Mentioned}
 use Rattle.type_definitions.specs.Actualisation.{actualisation}
 use Rattle.type_definitions.specs.ActualisationFaults.{actualising_of, actualisation_fault}
-use Rattle.type_definitions.specs.UnionExamples.{a_place, a_sort, an_operation, presentation_of, mentioned_at}
-use Rattle.type_definitions.specs.RenamingExamples.{pair_at}
+use Rattle.type_definitions.specs.UnionExamples.{a_place, a_sort, an_operation, example_presentation, mentioned_at}
+use Rattle.type_definitions.specs.RenamingExamples.{example_pair_at}
 
 -- an infix operation
 abbrev pub an_infix : List ℕ → List ℕ → ℕ → Operation
@@ -42,7 +42,7 @@ doubling = record {
 -- a sort N with a constant and add
 abbrev pub adding : Presentation
 adding =
-    presentation_of (a_sort (codes "N") (codes "V") ∷ [])
+    example_presentation (a_sort (codes "N") (codes "V") ∷ [])
     (an_operation (codes "0") [] 0 ∷ an_operation (codes "add") (0 ∷ 0 ∷ []) 0 ∷ []) [] []
 
 abbrev pub doubling_mentioned : Mentioned
@@ -53,19 +53,19 @@ adding_mentioned = mentioned_at 2 (codes "Adding") adding
 
 -- N for E, and with or without add for +
 abbrev pub doubling_pairs : List WrittenPair → WrittenPairs
-doubling_pairs pairs = record { sort_pairs = pair_at 3 (codes "N") (codes "E") ∷ []; operation_pairs = pairs }
+doubling_pairs pairs = record { sort_pairs = example_pair_at 3 (codes "N") (codes "E") ∷ []; operation_pairs = pairs }
 
 -- two formal sorts E and F; two operations on them with these names
 abbrev pub two_formals : List ℕ → List ℕ → Mentioned
 two_formals one other =
     mentioned_at 1 (codes "Two")
-    (presentation_of (a_sort (codes "E") (codes "T") ∷ a_sort (codes "F") (codes "T") ∷ [])
+    (example_presentation (a_sort (codes "E") (codes "T") ∷ a_sort (codes "F") (codes "T") ∷ [])
     (an_operation one (0 ∷ []) 0 ∷ an_operation other (1 ∷ []) 1 ∷ []) [] (0 ∷ 1 ∷ []))
 
 -- N for E and for F
 abbrev pub one_actual : List WrittenPair → WrittenPairs
 one_actual pairs = record {
-  sort_pairs = pair_at 3 (codes "N") (codes "E") ∷ pair_at 4 (codes "N") (codes "F") ∷ [];
+  sort_pairs = example_pair_at 3 (codes "N") (codes "E") ∷ example_pair_at 4 (codes "N") (codes "F") ∷ [];
   operation_pairs = pairs;
 }
 
@@ -74,13 +74,13 @@ pub record ActualisationExamples : Type 0 where
   pub doubled :
       actualisation
       (actualising_of doubling_mentioned (adding_mentioned ∷ []) (codes "R")
-      (doubling_pairs (pair_at 4 (codes "add") (codes "+") ∷ [])))
-      ≡ presentation_of (a_sort (codes "N") (codes "V") ∷ [])
+      (doubling_pairs (example_pair_at 4 (codes "add") (codes "+") ∷ [])))
+      ≡ example_presentation (a_sort (codes "N") (codes "V") ∷ [])
       (an_operation (codes "0") [] 0 ∷ an_operation (codes "add") (0 ∷ 0 ∷ []) 0 ∷ an_operation (codes "double") (0 ∷ []) 0 ∷ [])
       (double_law 2 1 0 ∷ []) []
   pub fine :
       actualisation_fault doubling_mentioned (adding_mentioned ∷ []) (codes "R")
-      (doubling_pairs (pair_at 4 (codes "add") (codes "+") ∷ []))
+      (doubling_pairs (example_pair_at 4 (codes "add") (codes "+") ∷ []))
       ≡ None
   -- without a pair there is no +
   pub no_plus :
@@ -90,17 +90,17 @@ pub record ActualisationExamples : Type 0 where
   pub one_operation :
       actualisation
       (actualising_of (two_formals (codes "h") (codes "h")) (adding_mentioned ∷ []) (codes "R") (one_actual []))
-      ≡ presentation_of (a_sort (codes "N") (codes "V") ∷ [])
+      ≡ example_presentation (a_sort (codes "N") (codes "V") ∷ [])
       (an_operation (codes "0") [] 0 ∷ an_operation (codes "add") (0 ∷ 0 ∷ []) 0 ∷ an_operation (codes "h") (0 ∷ []) 0 ∷ []) [] []
   pub one_is_fine :
       actualisation_fault (two_formals (codes "h") (codes "h")) (adding_mentioned ∷ []) (codes "R") (one_actual []) ≡ None
   -- but what two pairs name alike stays two, and the second one clashes
   pub two_operations :
       actualisation_fault (two_formals (codes "h") (codes "k")) (adding_mentioned ∷ []) (codes "R")
-      (one_actual (pair_at 5 (codes "g") (codes "h") ∷ pair_at 6 (codes "g") (codes "k") ∷ []))
+      (one_actual (example_pair_at 5 (codes "g") (codes "h") ∷ example_pair_at 6 (codes "g") (codes "k") ∷ []))
       ≡ Some (double_operation (a_place 6) (codes "g"))
   -- h is new for k, and the other h has its profile
   pub two_named_h :
       actualisation_fault (two_formals (codes "h") (codes "k")) (adding_mentioned ∷ []) (codes "R")
-      (one_actual (pair_at 5 (codes "h") (codes "k") ∷ []))
+      (one_actual (example_pair_at 5 (codes "h") (codes "k") ∷ []))
       ≡ Some (double_operation (a_place 5) (codes "h"))

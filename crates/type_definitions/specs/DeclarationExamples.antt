@@ -9,63 +9,63 @@ use Rattle.type_definitions.specs.TypeFault.{double_sort, double_operation, unkn
 use Rattle.type_definitions.specs.Presentation.{nothing}
 use Rattle.type_definitions.specs.Declarations.{with_declarations, declaration_fault}
 use Rattle.type_definitions.specs.DeclaredEquations.{equation_of_sides}
-use Rattle.type_definitions.specs.UnionExamples.{a_place, a_sort, an_operation, presentation_of}
+use Rattle.type_definitions.specs.UnionExamples.{a_place, a_sort, an_operation, example_presentation}
 
 abbrev pub name_at : ℕ → List ℕ → PlacedName
 name_at line name = record { place = a_place line; name = name }
 
 -- an operation with the result N, in the line of the number, with this name, form and arguments
-abbrev pub operation_at : ℕ → List ℕ → Form → List PlacedName → WrittenOperation
-operation_at line name form arguments =
+abbrev pub example_operation_at : ℕ → List ℕ → Form → List PlacedName → WrittenOperation
+example_operation_at line name form arguments =
     record { place = a_place line; name = name; form = form; arguments = arguments; result = name_at 8 (codes "N") }
 
-abbrev pub no_equations : WrittenEquations
-no_equations = record { variables = []; groups = [] }
+abbrev pub no_example_equations : WrittenEquations
+no_example_equations = record { variables = []; groups = [] }
 
 -- formal sorts, sorts and operations
-abbrev pub sections_of : List PlacedName → List PlacedName → List WrittenOperation → WrittenSections
-sections_of formal sorts operations = record {
+abbrev pub example_sections : List PlacedName → List PlacedName → List WrittenOperation → WrittenSections
+example_sections formal sorts operations = record {
   formal_sorts = formal;
   formal_operations = [];
-  formal_equations = no_equations;
+  formal_equations = no_example_equations;
   sorts = sorts;
   operations = operations;
-  equations = no_equations;
+  equations = no_example_equations;
 }
 
 -- N, with 0 and s
 abbrev pub naturals : WrittenSections
 naturals =
-    sections_of (name_at 1 (codes "E") ∷ []) (name_at 2 (codes "N") ∷ [])
-    (operation_at 3 (codes "0") prefix_form [] ∷ operation_at 4 (codes "s") prefix_form (name_at 4 (codes "n") ∷ []) ∷ [])
+    example_sections (name_at 1 (codes "E") ∷ []) (name_at 2 (codes "N") ∷ [])
+    (example_operation_at 3 (codes "0") prefix_form [] ∷ example_operation_at 4 (codes "s") prefix_form (name_at 4 (codes "n") ∷ []) ∷ [])
 
 pub record DeclarationExamples : Type 0 where
   -- the formal sort comes first, and N is the sort of the number 1
   pub declared :
       with_declarations (codes "T") nothing naturals
-      ≡ presentation_of (a_sort (codes "E") (codes "T") ∷ a_sort (codes "N") (codes "T") ∷ [])
+      ≡ example_presentation (a_sort (codes "E") (codes "T") ∷ a_sort (codes "N") (codes "T") ∷ [])
       (an_operation (codes "0") [] 1 ∷ an_operation (codes "s") (1 ∷ []) 1 ∷ []) [] (0 ∷ [])
   pub fine : declaration_fault (codes "T") nothing naturals ≡ None
   -- the second declaration of N
   pub second_sort :
-      declaration_fault (codes "T") nothing (sections_of (name_at 1 (codes "N") ∷ []) (name_at 2 (codes "n") ∷ []) [])
+      declaration_fault (codes "T") nothing (example_sections (name_at 1 (codes "N") ∷ []) (name_at 2 (codes "n") ∷ []) [])
       ≡ Some (double_sort (a_place 2) (codes "n"))
   -- one argument is not enough for an infix operation, whatever its sort
   pub one_argument :
       declaration_fault (codes "T") nothing
-      (sections_of [] (name_at 2 (codes "N") ∷ [])
-      (operation_at 3 (codes "+") infix_form (name_at 4 (codes "Z") ∷ []) ∷ []))
+      (example_sections [] (name_at 2 (codes "N") ∷ [])
+      (example_operation_at 3 (codes "+") infix_form (name_at 4 (codes "Z") ∷ []) ∷ []))
       ≡ Some (no_reading (a_place 3))
   pub unknown :
       declaration_fault (codes "T") nothing
-      (sections_of [] (name_at 2 (codes "N") ∷ [])
-      (operation_at 3 (codes "s") prefix_form (name_at 4 (codes "Z") ∷ []) ∷ []))
+      (example_sections [] (name_at 2 (codes "N") ∷ [])
+      (example_operation_at 3 (codes "s") prefix_form (name_at 4 (codes "Z") ∷ []) ∷ []))
       ≡ Some (unknown_sort (a_place 4) (Some (codes "Z")))
   -- the second declaration of 0
   pub second_operation :
       declaration_fault (codes "T") nothing
-      (sections_of [] (name_at 2 (codes "N") ∷ [])
-      (operation_at 3 (codes "0") prefix_form [] ∷ operation_at 4 (codes "0") prefix_form [] ∷ []))
+      (example_sections [] (name_at 2 (codes "N") ∷ [])
+      (example_operation_at 3 (codes "0") prefix_form [] ∷ example_operation_at 4 (codes "0") prefix_form [] ∷ []))
       ≡ Some (double_operation (a_place 4) (codes "0"))
   -- x, y and z are in scope; in the equation z has the number 0 and x the number 1
   pub numbered :

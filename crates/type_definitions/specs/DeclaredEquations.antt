@@ -63,11 +63,11 @@ abbrev pub scope_of : Presentation → AskedEquation → List Variable
 scope_of p asked = scope_from p 0 asked.variables
 
 -- the refusal of a term, as a fault
-abbrev pub fault_of : ReadingRefusal → TypeFault
-fault_of (name_unknown place) = unknown_name place
-fault_of (sort_unknown place) = unknown_sort place None
-fault_of (none_read place) = no_reading place
-fault_of (two_read place) = two_readings place
+abbrev pub type_fault_of : ReadingRefusal → TypeFault
+type_fault_of (name_unknown place) = unknown_name place
+type_fault_of (sort_unknown place) = unknown_sort place None
+type_fault_of (none_read place) = no_reading place
+type_fault_of (two_read place) = two_readings place
 
 -- the term is the one reading of a side
 abbrev pub IsSide : Presentation → AskedEquation → WrittenTerm → Term → Type 0
@@ -81,7 +81,7 @@ abbrev pub IsSideFault : Presentation → AskedEquation → WrittenTerm → Type
 IsSideFault p asked side fault =
     (refusal : ReadingRefusal)
     × ReadingIs p.signature (scope_of p asked) side (Some (sort_numbered p asked.sort)) (refused refusal)
-    × (fault_of refusal ≡ fault)
+    × (type_fault_of refusal ≡ fault)
 
 -- ---- Premisses of formal equations.
 
@@ -109,12 +109,12 @@ IsReadPremiss p asked left None =
 -- the premiss is refused with this fault
 abbrev pub IsPremissFault : Presentation → AskedEquation → WrittenTerm → Option WrittenTerm → TypeFault → Type 0
 IsPremissFault p asked left (Some right) fault =
-    (refusal : ReadingRefusal) × PairReadingIs p.signature (scope_of p asked) left right (refused refusal) × (fault_of refusal ≡ fault)
+    (refusal : ReadingRefusal) × PairReadingIs p.signature (scope_of p asked) left right (refused refusal) × (type_fault_of refusal ≡ fault)
 IsPremissFault p asked left None fault =
     ((has_truth p ≡ false) × (fault ≡ no_reading (written_head left).place))
     ⊎ ((has_truth p ≡ true)
     × ((refusal : ReadingRefusal) × ReadingIs p.signature (scope_of p asked) left (Some (bool_sort p)) (refused refusal)
-    × (fault_of refusal ≡ fault)))
+    × (type_fault_of refusal ≡ fault)))
 
 -- each premiss can be read
 abbrev pub AreReadPremisses : Presentation → AskedEquation → List WrittenPremiss → Type 0
@@ -132,17 +132,17 @@ IsFirstPremissFault p asked (w ∷ ws) fault =
 
 abbrev mutual
   -- the numbers of the variables in a term, from left to right
-  pub variable_numbers : Term → List ℕ
-  variable_numbers (variable number sort) = number ∷ []
-  variable_numbers (node operation arguments) = variable_numbers_among arguments
+  pub numbers_in_term : Term → List ℕ
+  numbers_in_term (variable number sort) = number ∷ []
+  numbers_in_term (node operation arguments) = variable_numbers_among arguments
 
   pub variable_numbers_among : Terms → List ℕ
   variable_numbers_among no_terms = []
-  variable_numbers_among (term_then t ts) = variable_numbers t ++ variable_numbers_among ts
+  variable_numbers_among (term_then t ts) = numbers_in_term t ++ variable_numbers_among ts
 
 -- the numbers of the variables in two sides, each once, by first appearance
 abbrev pub appearing : Term → Term → List ℕ
-appearing left right = with_new nat_eq [] (variable_numbers left ++ variable_numbers right)
+appearing left right = with_new nat_eq [] (numbers_in_term left ++ numbers_in_term right)
 
 abbrev mutual
   -- a term in which each variable has its number's position in the list as its number

@@ -29,16 +29,16 @@ mentions_in (renames base pairs) = base ∷ []
 mentions_in (actualises base actuals pairs) = base ∷ actuals
 
 -- whether the type has this name
-abbrev pub has_name : List ℕ → DeclaredType → Bool
-has_name name t = bytes_eq (folded name) (folded t.name)
+abbrev pub is_type_named : List ℕ → DeclaredType → Bool
+is_type_named name t = bytes_eq (folded name) (folded t.name)
 
 -- whether a type of the list has this name
 abbrev pub is_type_name : List DeclaredType → List ℕ → Bool
-is_type_name types name = list_any (has_name name) types
+is_type_name types name = list_any (is_type_named name) types
 
 -- the number of the first type of this name
 abbrev pub type_number : List DeclaredType → List ℕ → ℕ
-type_number types name = first_position (has_name name) types
+type_number types name = first_position (is_type_named name) types
 
 -- the numbers of the types of these names
 abbrev pub type_numbers : List DeclaredType → List PlacedName → List ℕ

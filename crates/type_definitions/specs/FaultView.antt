@@ -36,12 +36,12 @@ HoldsOfFault (Term fault) P = HoldsOfTerm fault P
 HoldsOfFault NoMemory P = Unit {0}
 
 -- the fault of the code that a refused term is
-abbrev pub fault_of_term : SortFault → TypeFault
-fault_of_term (sort.UnknownName place) = Term (sort.UnknownName place)
-fault_of_term (sort.UnknownSort place) = Term (sort.UnknownSort place)
-fault_of_term (sort.NoReading place) = Term (sort.NoReading place)
-fault_of_term (sort.TwoReadings place) = Term (sort.TwoReadings place)
-fault_of_term sort.NoMemory = NoMemory
+abbrev pub type_fault_of_term : SortFault → TypeFault
+type_fault_of_term (sort.UnknownName place) = Term (sort.UnknownName place)
+type_fault_of_term (sort.UnknownSort place) = Term (sort.UnknownSort place)
+type_fault_of_term (sort.NoReading place) = Term (sort.NoReading place)
+type_fault_of_term (sort.TwoReadings place) = Term (sort.TwoReadings place)
+type_fault_of_term sort.NoMemory = NoMemory
 
 -- the fault of the code that a fault of names is
 abbrev pub fault_of_names : TypeNameFault → TypeFault

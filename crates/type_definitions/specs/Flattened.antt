@@ -12,7 +12,7 @@ use Rattle.type_definitions.specs.TypeFault.{TypeFault}
 use Rattle.type_definitions.specs.Presentation.{Presentation, nothing}
 use Rattle.type_definitions.specs.Union.{Mentioned, union_of, union_fault}
 use Rattle.type_definitions.specs.Extension.{IsExtension, IsExtensionFault}
-use Rattle.type_definitions.specs.Renaming.{renaming, renaming_fault}
+use Rattle.type_definitions.specs.Renaming.{renamed_presentation, renaming_fault}
 use Rattle.type_definitions.specs.Actualisation.{actualisation, is_formal}
 use Rattle.type_definitions.specs.ActualisationFaults.{actualising_of, actualisation_fault}
 
@@ -35,7 +35,7 @@ abbrev pub IsPresentation : List Mentioned → List ℕ → WrittenTypeBody → 
 IsPresentation done name (extends imports sections) p = IsExtension (mentions_with done imports) name sections p
 IsPresentation done name (renames base pairs) p =
     (renaming_fault (presentation_named done base.name) name pairs ≡ None)
-    × (renaming (presentation_named done base.name) name pairs ≡ p)
+    × (renamed_presentation (presentation_named done base.name) name pairs ≡ p)
 IsPresentation done name (actualises base actuals pairs) p =
     (actualisation_fault (mention_of done base) (mentions_with done actuals) name pairs ≡ None)
     × (actualisation (actualising_of (mention_of done base) (mentions_with done actuals) name pairs) ≡ p)
@@ -77,8 +77,8 @@ abbrev pub without_formals : List Mentioned → List Mentioned
 without_formals [] = []
 without_formals (t ∷ ts) = if is_formal t.presentation then without_formals ts else t ∷ without_formals ts
 
-abbrev pub data_of : Presentation → Data
-data_of p = record { signature = p.signature; equations = p.equations }
+abbrev pub flattened_data_of : Presentation → Data
+flattened_data_of p = record { signature = p.signature; equations = p.equations }
 
 -- the types of these numbers, in this order
 abbrev pub types_at : List DeclaredType → List ℕ → List DeclaredType
@@ -91,7 +91,7 @@ pub record IsFlattening (types : List DeclaredType) (data_ : Data) : Type 0 wher
   pub all : List Mentioned
   pub presented : ArePresented [] (types_at types order) all
   pub united : union_fault (without_formals all) ≡ None
-  pub answered : data_of (union_of (without_formals all)) ≡ data_
+  pub answered : flattened_data_of (union_of (without_formals all)) ≡ data_
 
 -- The union of the types in which nothing is formal has this fault, at the name of the type that brings it.
 pub record IsFaultOfUnion (types : List DeclaredType) (fault : TypeFault) : Type 0 where

@@ -9,7 +9,7 @@ use Rattle.syntax_trees.specs.WrittenItem.{WrittenSections, WrittenTypeBody, ext
 use Rattle.sort_terms.specs.ReadingOutcome.{one_name}
 use Rattle.type_definitions.specs.Presentation.{Presentation, nothing, is_same_equation, with_new}
 use Rattle.type_definitions.specs.Images.{equation_image}
-use Rattle.type_definitions.specs.Union.{Mentioned, joined, joined_sort, joined_operation}
+use Rattle.type_definitions.specs.Union.{Mentioned, joined_presentation, joined_sort, joined_operation}
 use Rattle.type_definitions.specs.DeclaredEquations.{EquationQuestion, sort_asked, formal_asked, AskedEquation, asked_of_section, IsSide, scope_of, equation_of_sides}
 use Rattle.type_definitions.specs.Flattened.{presentation_named}
 
@@ -27,7 +27,7 @@ no_formals = record { presentation = nothing; formals = [] }
 
 abbrev pub formals_joined : WithFormals → WithFormals → WithFormals
 formals_joined p q = record {
-  presentation = joined p.presentation q.presentation;
+  presentation = joined_presentation p.presentation q.presentation;
   formals = with_new is_same_equation p.formals
       (map (equation_image (joined_sort p.presentation q.presentation) (joined_operation p.presentation q.presentation)) q.formals);
 }

@@ -23,14 +23,14 @@ unknown_among types [] = None
 unknown_among types (m ∷ ms) = if is_type_name types m.name then unknown_among types ms else Some m
 
 -- the first of two, the second of which counts only where there is no first
-abbrev pub first_of : {A : Type 0} → Option A → Option A → Option A
-first_of None later = later
-first_of (Some x) later = Some x
+abbrev pub earlier_of_two : {A : Type 0} → Option A → Option A → Option A
+earlier_of_two None later = later
+earlier_of_two (Some x) later = Some x
 
 -- The first mention, in text order, of a name that no type has.
 abbrev pub unknown_mention : List DeclaredType → List DeclaredType → Option PlacedName
 unknown_mention types [] = None
-unknown_mention types (t ∷ ts) = first_of (unknown_among types (mentions_in t.body)) (unknown_mention types ts)
+unknown_mention types (t ∷ ts) = earlier_of_two (unknown_among types (mentions_in t.body)) (unknown_mention types ts)
 
 -- No name is declared twice.
 abbrev pub AreDeclaredOnce : List DeclaredType → Type 0
@@ -41,13 +41,13 @@ abbrev pub AreAllKnown : List DeclaredType → Type 0
 AreAllKnown types = unknown_mention types types ≡ None
 
 -- the mentions of a type, if there is one
-abbrev pub mentions_of : Option DeclaredType → List PlacedName
-mentions_of None = []
-mentions_of (Some t) = mentions_in t.body
+abbrev pub mentions_of_type : Option DeclaredType → List PlacedName
+mentions_of_type None = []
+mentions_of_type (Some t) = mentions_in t.body
 
 -- the mention at this position of the type of this number
 abbrev pub mention_at : List DeclaredType → ℕ → ℕ → Option PlacedName
-mention_at types by position = slice_get (mentions_of (slice_get types by)) position
+mention_at types by position = slice_get (mentions_of_type (slice_get types by)) position
 
 -- The mention is the first one, in text order, that lies on a cycle.
 pub record IsCyclicMention (types : List DeclaredType) (mention : PlacedName) : Type 0 where

@@ -50,8 +50,8 @@ with_new same kept [] = kept
 with_new same kept (x ∷ xs) = with_new same (if list_any (same x) kept then kept else kept ++ x ∷ []) xs
 
 -- whether the number is marked
-abbrev pub is_marked : List ℕ → ℕ → Bool
-is_marked marks number = list_any (nat_eq number) marks
+abbrev pub is_marked_number : List ℕ → ℕ → Bool
+is_marked_number marks number = list_any (nat_eq number) marks
 
 -- ---- What a presentation must not have.
 

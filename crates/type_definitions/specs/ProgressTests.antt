@@ -8,10 +8,10 @@ is_unseen Unseen = true
 is_unseen Open = false
 is_unseen Done = false
 
-abbrev pub is_open : Progress → Bool
-is_open Unseen = false
-is_open Open = true
-is_open Done = false
+abbrev pub is_in_progress : Progress → Bool
+is_in_progress Unseen = false
+is_in_progress Open = true
+is_in_progress Done = false
 
 abbrev pub is_done : Progress → Bool
 is_done Unseen = false

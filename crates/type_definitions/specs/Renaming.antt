@@ -40,8 +40,8 @@ abbrev pub renamed_operation : List ℕ → WrittenPairs → Operation → Opera
 renamed_operation type_name pairs operation = operation_under type_name (pair_for pairs.operation_pairs operation.name) operation
 
 -- the presentation of the renaming of this base
-abbrev pub renaming : Presentation → List ℕ → WrittenPairs → Presentation
-renaming base type_name pairs = record {
+abbrev pub renamed_presentation : Presentation → List ℕ → WrittenPairs → Presentation
+renamed_presentation base type_name pairs = record {
   signature = record {
     sorts = map (renamed_sort type_name pairs) base.signature.sorts;
     operations = map (renamed_operation type_name pairs) base.signature.operations;

@@ -8,11 +8,11 @@ use Rattle.lotos_base.specs.Term.{variable, node, no_terms, term_then}
 use Rattle.syntax_trees.specs.WrittenItem.{WrittenPair, WrittenPairs, WrittenTypeBody, extends, renames, actualises}
 use Rattle.syntax_trees.specs.WrittenEquation.{WrittenPremiss, WrittenEquation}
 use Rattle.type_definitions.specs.Presentation.{Presentation}
-use Rattle.type_definitions.specs.Renaming.{renaming}
+use Rattle.type_definitions.specs.Renaming.{renamed_presentation}
 use Rattle.type_definitions.specs.Actualisation.{actualisation}
 use Rattle.type_definitions.specs.ActualisationFaults.{actualising_of, actualisation_fault}
 use Rattle.type_definitions.specs.UnionExamples.{a_sort, mentioned_at}
-use Rattle.type_definitions.specs.RenamingExamples.{pair_at}
+use Rattle.type_definitions.specs.RenamingExamples.{example_pair_at}
 use Rattle.type_definitions.specs.DeclarationExamples.{name_at}
 use Rattle.type_definitions.specs.Flattened.{mention_of, mentions_with}
 use Rattle.type_definitions.specs.DeclaredEquations.{AskedEquation, formal_asked}
@@ -103,7 +103,7 @@ abbrev pub by_numbers : List PlacedName
 by_numbers = name_at 5 (codes "Numbers") ∷ []
 
 abbrev pub nat_for_elem : List WrittenPair
-nat_for_elem = pair_at 5 (codes "Nat") (codes "Elem") ∷ []
+nat_for_elem = example_pair_at 5 (codes "Nat") (codes "Elem") ∷ []
 
 abbrev pub bag_of_numbers : FlattenedType
 bag_of_numbers = record {
@@ -147,10 +147,10 @@ pub record RequirementExamples : Type 0 where
   -- a renaming has those of its base
   pub of_a_renaming :
       AreFormalsOf three_types
-      (renaming bag (codes "Sack")
-      (record { sort_pairs = pair_at 5 (codes "Item") (codes "Elem") ∷ []; operation_pairs = [] }))
+      (renamed_presentation bag (codes "Sack")
+      (record { sort_pairs = example_pair_at 5 (codes "Item") (codes "Elem") ∷ []; operation_pairs = [] }))
       (renames (name_at 5 (codes "Bag"))
-      (record { sort_pairs = pair_at 5 (codes "Item") (codes "Elem") ∷ []; operation_pairs = [] }))
+      (record { sort_pairs = example_pair_at 5 (codes "Item") (codes "Elem") ∷ []; operation_pairs = [] }))
       (reflexivity 1 1 0 ∷ [])
   -- where elements stand for elements, nothing is required yet, and the formal equation is that of the actual type
   pub still_formal :

@@ -7,7 +7,7 @@ use Rattle.type_definitions.specs.DeclaredTypes.{DeclaredType, mention_graph}
 use Rattle.type_definitions.specs.FlatteningOrder.{IsFlatteningOrder}
 use Rattle.type_definitions.specs.Presentation.{Presentation}
 use Rattle.type_definitions.specs.Images.{equation_image}
-use Rattle.type_definitions.specs.Union.{joined, joined_sort, joined_operation, union_fault}
+use Rattle.type_definitions.specs.Union.{joined_presentation, joined_sort, joined_operation, union_fault}
 use Rattle.type_definitions.specs.Actualisation.{Actualising, actualised_sort, actualised_operation, is_formal}
 use Rattle.type_definitions.specs.ActualisationFaults.{actualising_of}
 use Rattle.type_definitions.specs.Flattened.{IsPresentation, declared_with, mention_of, mentions_with, without_formals, types_at}
@@ -55,7 +55,7 @@ informal_types (t ∷ ts) = if is_formal t.mentioned.presentation then informal_
 -- the union with one type more, and the requirements with those of this type
 abbrev pub with_required : WithFormals → FlattenedType → WithFormals
 with_required p t = record {
-  presentation = joined p.presentation t.mentioned.presentation;
+  presentation = joined_presentation p.presentation t.mentioned.presentation;
   formals = p.formals
       ++ map
       (equation_image (joined_sort p.presentation t.mentioned.presentation) (joined_operation p.presentation t.mentioned.presentation))

@@ -3,7 +3,7 @@ use Rattle.std.specs.Prelude.{ℕ, List, [], map}
 use Rattle.lotos_base.specs.Name.{spelling}
 use Rattle.lotos_base.specs.WrittenView.{text_place_of, placed_name_of}
 use Rattle.syntax_trees.specs.WrittenItem.{WrittenTypeBody, WrittenSections, extends, renames, actualises}
-use Rattle.syntax_trees.specs.TreeViews.{placed_names_of, operation_of, equations_of, pairs_of}
+use Rattle.syntax_trees.specs.TreeViews.{placed_names_of, written_operation_of, equations_of, pairs_of}
 use Rattle.syntax_trees.specs.declared.items.ItemBody.{ItemBody}
 use Rattle.syntax_trees.specs.declared.items.ItemBody.TheVariants.{Library, Extends, Renames, Actualises}
 use Rattle.type_definitions.specs.DeclaredTypes.{DeclaredType}
@@ -26,10 +26,10 @@ type_body_of (Library names) = extends [] no_sections
 type_body_of (Extends name imports formal_sorts formal_ops formal_equations sorts ops equations) =
     extends (placed_names_of imports.items) (record {
       formal_sorts = placed_names_of formal_sorts.items;
-      formal_operations = map operation_of formal_ops.items;
+      formal_operations = map written_operation_of formal_ops.items;
       formal_equations = equations_of formal_equations;
       sorts = placed_names_of sorts.items;
-      operations = map operation_of ops.items;
+      operations = map written_operation_of ops.items;
       equations = equations_of equations;
     })
 type_body_of (Renames name base sort_pairs op_pairs) =

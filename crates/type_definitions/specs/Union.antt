@@ -9,14 +9,14 @@ use Rattle.type_definitions.specs.Presentation.{Presentation, nothing, is_same_s
 use Rattle.type_definitions.specs.Images.{operation_image, equation_image}
 
 -- where the sort stands in the list
-abbrev pub sort_in : List Sort → Option Sort → ℕ
-sort_in sorts None = 0
-sort_in sorts (Some sort) = first_position (is_same_sort sort) sorts
+abbrev pub sort_place_in : List Sort → Option Sort → ℕ
+sort_place_in sorts None = 0
+sort_place_in sorts (Some sort) = first_position (is_same_sort sort) sorts
 
 -- where the operation stands in the list
-abbrev pub operation_in : List Operation → Option Operation → ℕ
-operation_in operations None = 0
-operation_in operations (Some operation) = first_position (is_same_operation operation) operations
+abbrev pub operation_place_in : List Operation → Option Operation → ℕ
+operation_place_in operations None = 0
+operation_place_in operations (Some operation) = first_position (is_same_operation operation) operations
 
 -- ---- One presentation joined with another one.
 
@@ -25,7 +25,7 @@ joined_sorts p q = with_new is_same_sort p.signature.sorts q.signature.sorts
 
 -- the number that a sort of the second one gets
 abbrev pub joined_sort : Presentation → Presentation → ℕ → ℕ
-joined_sort p q number = sort_in (joined_sorts p q) (slice_get q.signature.sorts number)
+joined_sort p q number = sort_place_in (joined_sorts p q) (slice_get q.signature.sorts number)
 
 -- the operations of the second one, over the joined sorts
 abbrev pub coming_operations : Presentation → Presentation → List Operation
@@ -36,15 +36,15 @@ joined_operations p q = with_new is_same_operation p.signature.operations (comin
 
 -- the number that an operation of the second one gets
 abbrev pub joined_operation : Presentation → Presentation → ℕ → ℕ
-joined_operation p q number = operation_in (joined_operations p q) (slice_get (coming_operations p q) number)
+joined_operation p q number = operation_place_in (joined_operations p q) (slice_get (coming_operations p q) number)
 
 abbrev pub joined_equations : Presentation → Presentation → List Equation
 joined_equations p q =
     with_new is_same_equation p.equations (map (equation_image (joined_sort p q) (joined_operation p q)) q.equations)
 
 -- the union of the two; the numbers of the first one stay
-abbrev pub joined : Presentation → Presentation → Presentation
-joined p q = record {
+abbrev pub joined_presentation : Presentation → Presentation → Presentation
+joined_presentation p q = record {
   signature = record { sorts = joined_sorts p q; operations = joined_operations p q };
   equations = joined_equations p q;
   formal_sorts = with_new nat_eq p.formal_sorts (map (joined_sort p q) q.formal_sorts);
@@ -66,7 +66,7 @@ pub record Mentioned : Type 0 where
 
 -- what came before, joined with what the mention brings
 abbrev pub with_mentioned : Presentation → Mentioned → Presentation
-with_mentioned p mention = joined p mention.presentation
+with_mentioned p mention = joined_presentation p mention.presentation
 
 abbrev pub union_of : List Mentioned → Presentation
 union_of mentioned = fold with_mentioned nothing mentioned

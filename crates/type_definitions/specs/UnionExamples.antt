@@ -26,8 +26,8 @@ an_equation f s = record {
   right = node f (term_then (variable 0 s) no_terms);
 }
 
-abbrev pub presentation_of : List Sort → List Operation → List Equation → List ℕ → Presentation
-presentation_of sorts operations equations formal = record {
+abbrev pub example_presentation : List Sort → List Operation → List Equation → List ℕ → Presentation
+example_presentation sorts operations equations formal = record {
   signature = record { sorts = sorts; operations = operations };
   equations = equations;
   formal_sorts = formal;
@@ -37,18 +37,18 @@ presentation_of sorts operations equations formal = record {
 -- sorts A and B, with a formal B
 abbrev pub one_presentation : Presentation
 one_presentation =
-    presentation_of (a_sort (codes "A") (codes "T") ∷ a_sort (codes "B") (codes "U") ∷ [])
+    example_presentation (a_sort (codes "A") (codes "T") ∷ a_sort (codes "B") (codes "U") ∷ [])
     (an_operation (codes "a") [] 0 ∷ []) [] (1 ∷ [])
 
 -- sorts B and C, with f on B and its equation, and a formal B
 abbrev pub other_presentation : Presentation
 other_presentation =
-    presentation_of (a_sort (codes "b") (codes "u") ∷ a_sort (codes "C") (codes "V") ∷ [])
+    example_presentation (a_sort (codes "b") (codes "u") ∷ a_sort (codes "C") (codes "V") ∷ [])
     (an_operation (codes "f") (0 ∷ []) 0 ∷ an_operation (codes "c") [] 1 ∷ []) (an_equation 0 0 ∷ []) (0 ∷ [])
 
 -- another sort A
 abbrev pub clashing_presentation : Presentation
-clashing_presentation = presentation_of (a_sort (codes "a") (codes "W") ∷ []) [] [] []
+clashing_presentation = example_presentation (a_sort (codes "a") (codes "W") ∷ []) [] [] []
 
 abbrev pub mentioned_at : ℕ → List ℕ → Presentation → Mentioned
 mentioned_at line name p = record { at = record { place = a_place line; name = name }; presentation = p }
@@ -60,7 +60,7 @@ pub record UnionExamples : Type 0 where
   -- B is there once, as it is spelled first, and what speaks of it has its number
   pub union :
       union_of two_mentioned
-      ≡ presentation_of (a_sort (codes "A") (codes "T") ∷ a_sort (codes "B") (codes "U") ∷ a_sort (codes "C") (codes "V") ∷ [])
+      ≡ example_presentation (a_sort (codes "A") (codes "T") ∷ a_sort (codes "B") (codes "U") ∷ a_sort (codes "C") (codes "V") ∷ [])
       (an_operation (codes "a") [] 0 ∷ an_operation (codes "f") (1 ∷ []) 1 ∷ an_operation (codes "c") [] 2 ∷ [])
       (an_equation 1 1 ∷ []) (1 ∷ [])
   pub none : union_fault two_mentioned ≡ None

@@ -2,7 +2,7 @@
 use Rattle.std.specs.Prelude.{◌≡◌, ◌+◌, ◌*◌, ◌<◌, ◌≤◌, ℕ, true, List, [], ◌∷◌, ◌++◌, length, map, drop, slice_index_or}
 use Rattle.std.specs.List.{All, count_by}
 use Rattle.type_definitions.specs.TypeGraph.{mentioned_by, is_among, Mentions, MentionsLead}
-use Rattle.type_definitions.specs.FlatteningOrder.{ComesTo, ComesToEach}
+use Rattle.type_definitions.specs.FlatteningOrder.{FlatteningComesTo, ComesToEach}
 use Rattle.type_definitions.specs.ProgressTests.{is_unseen}
 use Rattle.type_definitions.specs.declared.walk.Progress.{Progress}
 use Rattle.type_definitions.specs.declared.walk.Progress.TheVariants.{Unseen, Open, Done}
@@ -58,7 +58,7 @@ Runs graph done (frame ∷ frames) all = (middle : List ℕ) × Runs graph done 
 -- the walk begins with this type: what comes of the types that wait comes of it
 pub record WalkStarts (graph : List (List ℕ)) (progress : List Progress) (order : List ℕ) (root : ℕ) (stack : List Frame) : Type 0 where
   pub walk : IsTypeWalk graph progress order stack
-  pub runs : (all : List ℕ) → Runs graph order stack all → ComesTo graph order root all
+  pub runs : (all : List ℕ) → Runs graph order stack all → FlatteningComesTo graph order root all
 
 -- one step: less is left, and what comes of it comes of what was there before
 pub record GoesOn (graph : List (List ℕ)) (progress : List Progress) (order : List ℕ) (stack : List Frame)

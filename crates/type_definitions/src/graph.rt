@@ -2,14 +2,14 @@
 
 ghost use Rattle.std.proofs.Props.{props};
 ghost use Rattle.std.specs.Prelude.{◌≡◌, ◌<◌, length};
-ghost use Rattle.type_definitions.specs.GraphRows.{rows_of};
+ghost use Rattle.type_definitions.specs.GraphRows.{graph_rows_of};
 ghost use Rattle.type_definitions.specs.TypeGraph.{IsWithin, mentioned_by};
 
 /// For each type, by its number, the numbers of the types that it mentions, in text order.
 #[derive(Debug, Drop)]
 pub struct MentionGraph {
     rows: Vec<Vec<usize>>,
-    pub ghost within: { IsWithin (rows_of rows.items) } by { Prim.hlevel props },
+    pub ghost within: { IsWithin (graph_rows_of rows.items) } by { Prim.hlevel props },
 }
 
 impl MentionGraph {
@@ -17,8 +17,8 @@ impl MentionGraph {
 
     /// The graph of these rows, one for each type.
     pub fn of(rows: Vec<Vec<usize>>) -> MentionGraph
-        requires { IsWithin (rows_of rows.items) }
-        ensures { graph_of result ≡ rows_of rows.items }
+        requires { IsWithin (graph_rows_of rows.items) }
+        ensures { graph_of result ≡ graph_rows_of rows.items }
     {
         MentionGraph { rows }
     }

@@ -129,9 +129,9 @@ impl<T: Drop> From<AllocFailed<T>> for TypeFault {
 }
 
 impl From<SortFault> for TypeFault {
-    ghost use Rattle.type_definitions.specs.FaultView.{fault_of_term};
+    ghost use Rattle.type_definitions.specs.FaultView.{type_fault_of_term};
 
-    ghost from_gives = { λ refused fault. fault ≡ fault_of_term refused };
+    ghost from_gives = { λ refused fault. fault ≡ type_fault_of_term refused };
 
     fn from(refused: SortFault) -> TypeFault {
         match refused {

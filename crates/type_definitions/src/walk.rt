@@ -1,7 +1,7 @@
 //! The walk through the types that comes to each of them after those that it mentions.
 
 ghost use Rattle.std.specs.Prelude.{◌≡◌, ◌<◌, ◌∷◌, ◌++◌, [], ℕ, List, true, false, length, slice_index, IfOk, MatchOption};
-ghost use Rattle.type_definitions.specs.FlatteningOrder.{ComesTo};
+ghost use Rattle.type_definitions.specs.FlatteningOrder.{FlatteningComesTo};
 ghost use Rattle.type_definitions.specs.GraphView.{graph_of};
 ghost use Rattle.type_definitions.specs.TypeGraph.{HasCycle};
 ghost use Rattle.type_definitions.specs.Walking.{
@@ -28,7 +28,7 @@ pub enum Progress {
 }
 
 impl Progress {
-    ghost use Rattle.type_definitions.specs.ProgressTests.{is_done, is_open};
+    ghost use Rattle.type_definitions.specs.ProgressTests.{is_done, is_in_progress};
 
     /// Whether it has its place in the order.
     pub fn done(self) -> bool
@@ -43,7 +43,7 @@ impl Progress {
 
     /// Whether it waits for types that it mentions.
     pub fn open(self) -> bool
-        ensures { result ≡ is_open self }
+        ensures { result ≡ is_in_progress self }
     {
         match self {
             Progress::Unseen => false,
@@ -75,7 +75,7 @@ pub fn come_to(
     requires walk { IsTypeWalk (graph_of graph.now) progress.old order.old.items [] }
     ensures { IfOk result (λ cyclic. (cyclic ≡ true → HasCycle (graph_of graph.now))
         × (cyclic ≡ false → IsTypeWalk (graph_of graph.now) progress.new order.new.items []
-        × ComesTo (graph_of graph.now) order.old.items root order.new.items)) }
+        × FlatteningComesTo (graph_of graph.now) order.old.items root order.new.items)) }
 {
     let mut stack = first_frame(alloc, graph, progress, order, root)?;
     while let Some(frame) = stack.pop() {

@@ -7,7 +7,7 @@ use Rattle.lotos_base.proofs.Pieces.{take_whole}
 use Rattle.lotos_base.specs.Name.{spelling}
 use Rattle.lotos_base.specs.WrittenView.{text_place_of}
 use Rattle.lotos_base.specs.Signature.{Sort, IsSort}
-use Rattle.syntax_trees.specs.TreeViews.{variable_of as written_of, variables_of}
+use Rattle.syntax_trees.specs.TreeViews.{written_variable_of as written_of, written_variables_of}
 use Rattle.syntax_trees.specs.declared.named.VarText.{VarText}
 use Rattle.sort_terms.specs.EquationView.{variable_of}
 use Rattle.sort_terms.specs.declared.equations.Variable.{Variable as CodeVariable}
@@ -50,41 +50,43 @@ asked_for v = sort_asked v.sort_place v.sort
 
 -- one variable more, whose sort is there
 pub given_more : (p : Presentation) (xs : List VarText) (i : ℕ) (x : VarText) → i < length xs → x ≡ get_or xs i x
-    → GiveAll p (asked_of_variables (variables_of (take i xs))) p → is_sort_name p.signature (spelling x.sort) ≡ true
-    → GiveAll p (asked_of_variables (variables_of (take (i + 1) xs))) p
+    → GiveAll p (asked_of_variables (written_variables_of (take i xs))) p → is_sort_name p.signature (spelling x.sort) ≡ true
+    → GiveAll p (asked_of_variables (written_variables_of (take (i + 1) xs))) p
 given_more p xs i x within is before there =
     subst (λ (asked : List EquationQuestion). GiveAll p asked p) (sym more)
-    (give_append p p p (asked_of_variables (variables_of (take i xs))) (asked_for (written_of x) ∷ []) before
+    (give_append p p p (asked_of_variables (written_variables_of (take i xs))) (asked_for (written_of x) ∷ []) before
     (next_gives p p p (asked_for (written_of x)) [] (sort_is_there (text_place_of x.sort_place) (spelling x.sort) there) (none_asked p)))
   where
-    more : asked_of_variables (variables_of (take (i + 1) xs))
-        ≡ asked_of_variables (variables_of (take i xs)) ++ asked_for (written_of x) ∷ []
+    more : asked_of_variables (written_variables_of (take (i + 1) xs))
+        ≡ asked_of_variables (written_variables_of (take i xs)) ++ asked_for (written_of x) ∷ []
     more =
         ap (λ (vs : List WrittenVariable). asked_of_variables vs) (so_far written_of xs i x within is)
-        ∙ map-append asked_for (variables_of (take i xs)) (written_of x ∷ [])
+        ∙ map-append asked_for (written_variables_of (take i xs)) (written_of x ∷ [])
 
 -- one variable more, whose sort is none
 pub faulty_here : (type_name : List ℕ) (p : Presentation) (xs : List VarText) (i : ℕ) (x : VarText) → i < length xs → x ≡ get_or xs i x
-    → GiveAll p (asked_of_variables (variables_of (take i xs))) p → is_sort_name p.signature (spelling x.sort) ≡ false
-    → HasFirstFault type_name p (asked_of_variables (variables_of xs)) (unknown_sort (text_place_of x.sort_place) (Some (spelling x.sort)))
+    → GiveAll p (asked_of_variables (written_variables_of (take i xs))) p → is_sort_name p.signature (spelling x.sort) ≡ false
+    → HasFirstFault type_name p (asked_of_variables (written_variables_of xs))
+    (unknown_sort (text_place_of x.sort_place) (Some (spelling x.sort)))
 faulty_here type_name p xs i x within is before none =
     subst (λ (asked : List EquationQuestion). HasFirstFault type_name p asked
     (unknown_sort (text_place_of x.sort_place) (Some (spelling x.sort))))
     (sym take_whole)
-    (fault_later type_name p p (asked_of_variables (variables_of (take i xs)))
-    (asked_for (written_of x) ∷ asked_of_variables (variables_of (drop (i + 1) xs)))
+    (fault_later type_name p p (asked_of_variables (written_variables_of (take i xs)))
+    (asked_for (written_of x) ∷ asked_of_variables (written_variables_of (drop (i + 1) xs)))
     (unknown_sort (text_place_of x.sort_place) (Some (spelling x.sort))) before
-    (at_once p (asked_for (written_of x)) (asked_of_variables (variables_of (drop (i + 1) xs)))
+    (at_once p (asked_for (written_of x)) (asked_of_variables (written_variables_of (drop (i + 1) xs)))
     (unknown_sort (text_place_of x.sort_place) (Some (spelling x.sort)))
     (sort_is_unknown (text_place_of x.sort_place) (spelling x.sort) none)))
   where
-    take_whole : asked_of_variables (variables_of xs)
-        ≡ asked_of_variables (variables_of (take i xs)) ++ asked_for (written_of x) ∷ asked_of_variables (variables_of (drop (i + 1) xs))
+    take_whole : asked_of_variables (written_variables_of xs)
+        ≡ asked_of_variables (written_variables_of (take i xs)) ++ asked_for (written_of x)
+        ∷ asked_of_variables (written_variables_of (drop (i + 1) xs))
     take_whole =
-        ap (λ (ys : List VarText). asked_of_variables (variables_of ys)) (sym (take-append-drop i xs))
+        ap (λ (ys : List VarText). asked_of_variables (written_variables_of ys)) (sym (take-append-drop i xs))
         ∙ ap (λ (vs : List WrittenVariable). asked_of_variables vs) (map-append written_of (take i xs) (drop i xs))
-        ∙ map-append asked_for (variables_of (take i xs)) (variables_of (drop i xs))
-        ∙ ap (λ (vs : List WrittenVariable). asked_of_variables (variables_of (take i xs)) ++ asked_of_variables vs)
+        ∙ map-append asked_for (written_variables_of (take i xs)) (written_variables_of (drop i xs))
+        ∙ ap (λ (vs : List WrittenVariable). asked_of_variables (written_variables_of (take i xs)) ++ asked_of_variables vs)
         (next_of written_of xs i x within is)
 
 pub as_many : (p : Presentation) (first : ℕ) (vs : List WrittenVariable) → length (scope_from p first vs) ≡ length vs
@@ -94,32 +96,33 @@ as_many p first (v ∷ vs) = ap (λ (n : ℕ). suc n) (as_many p (suc first) vs)
 -- a variable comes into scope
 pub scope_more : (p : Presentation) (xs : List VarText) (i : ℕ) (x : VarText) (old now new : List Variable) (start number : ℕ)
     (v : Variable)
-    → i < length xs → x ≡ get_or xs i x → now ≡ old ++ scope_from p start (variables_of (take i xs))
+    → i < length xs → x ≡ get_or xs i x → now ≡ old ++ scope_from p start (written_variables_of (take i xs))
     → start ≡ length old → number ≡ length now → new ≡ now ++ v ∷ []
     → v ≡ record { name = spelling x.name; number = number; sort = sort_numbered p (spelling x.sort) }
-    → new ≡ old ++ scope_from p start (variables_of (take (i + 1) xs))
+    → new ≡ old ++ scope_from p start (written_variables_of (take (i + 1) xs))
 scope_more p xs i x old now new start number v within at is from count grown made =
     grown ∙ ap (λ (u : Variable). now ++ u ∷ []) (made ∙ ap row numbered)
     ∙ ap (λ (ys : List Variable). ys ++ row place ∷ []) is
-    ∙ append_assoc old (scope_from p start (variables_of (take i xs))) (row place ∷ [])
+    ∙ append_assoc old (scope_from p start (written_variables_of (take i xs))) (row place ∷ [])
     ∙ ap (λ (ys : List Variable). old ++ ys) (sym step)
   where
     place : ℕ
-    place = start + length (variables_of (take i xs))
+    place = start + length (written_variables_of (take i xs))
 
     row : ℕ → Variable
     row n = record { name = spelling x.name; number = n; sort = sort_numbered p (spelling x.sort) }
 
     numbered : number ≡ place
     numbered =
-        count ∙ ap (λ (ys : List Variable). length ys) is ∙ length-append old (scope_from p start (variables_of (take i xs)))
-        ∙ ap (λ (n : ℕ). length old + n) (as_many p start (variables_of (take i xs)))
-        ∙ ap (λ (n : ℕ). n + length (variables_of (take i xs))) (sym from)
+        count ∙ ap (λ (ys : List Variable). length ys) is ∙ length-append old (scope_from p start (written_variables_of (take i xs)))
+        ∙ ap (λ (n : ℕ). length old + n) (as_many p start (written_variables_of (take i xs)))
+        ∙ ap (λ (n : ℕ). n + length (written_variables_of (take i xs))) (sym from)
 
-    step : scope_from p start (variables_of (take (i + 1) xs)) ≡ scope_from p start (variables_of (take i xs)) ++ row place ∷ []
+    step : scope_from p start (written_variables_of (take (i + 1) xs)) ≡ scope_from p start (written_variables_of (take i xs))
+        ++ row place ∷ []
     step =
         ap (λ (vs : List WrittenVariable). scope_from p start vs) (so_far written_of xs i x within at)
-        ∙ scope_append p start (variables_of (take i xs)) (written_of x ∷ [])
+        ∙ scope_append p start (written_variables_of (take i xs)) (written_of x ∷ [])
 
 pub sorts_there : (p : Presentation) (first : ℕ) (vs : List WrittenVariable) → GiveAll p (asked_of_variables vs) p
     → (i : ℕ) (v : Variable) → slice_get (scope_from p first vs) i ≡ Some v → IsSort p.signature v.sort

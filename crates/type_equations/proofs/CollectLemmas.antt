@@ -4,16 +4,16 @@ use Rattle.std.specs.Prelude.{Option, Some, None, slice_get, nat_eq, nat_lt, pos
 use Rattle.std.specs.Option.{option_map}
 use Rattle.std.specs.List.{list_any, position_or_len}
 use Rattle.std.proofs.lemmas.Bool.{ltb-false}
-use Rattle.std.proofs.lemmas.List.{append-nil, drop_more, map-append, drop_all}
+use Rattle.std.proofs.lemmas.List.{append-nil, drop_more, map-append}
 use Rattle.std.proofs.lemmas.List.Recursion.{is_position_or_len}
 use Rattle.std.proofs.lemmas.Option.{slice_get-map}
 use Rattle.lotos_base.specs.Equation.{Variable}
 use Rattle.sort_terms.specs.EquationView.{variable_of}
-use Rattle.sort_terms.specs.TermView.{term_of, terms_of}
+use Rattle.sort_terms.specs.TermView.{term_of, bare_terms_of}
 use Rattle.sort_terms.specs.declared.equations.Variable.{Variable as CodeVariable}
 use Rattle.sort_terms.specs.declared.terms.Term.{Term}
 use Rattle.type_definitions.specs.Presentation.{with_new, first_position}
-use Rattle.type_definitions.specs.DeclaredEquations.{variable_numbers, variable_numbers_among, declared_as, declared_from}
+use Rattle.type_definitions.specs.DeclaredEquations.{numbers_in_term, variable_numbers_among, declared_as, declared_from}
 
 pub new_twice : (kept xs ys : List ℕ) → with_new nat_eq kept (xs ++ ys) ≡ with_new nat_eq (with_new nat_eq kept xs) ys
 new_twice kept [] ys = refl
@@ -21,20 +21,15 @@ new_twice kept (x ∷ xs) ys = new_twice (if list_any (nat_eq x) kept then kept 
 
 -- one term of the list has come
 pub collected_more : (terms : List Term) (i : ℕ) (t : Term) (now new start : List ℕ) → i < length terms → t ≡ get_or terms i t
-    → with_new nat_eq now (variable_numbers_among (terms_of (drop i terms))) ≡ start
-    → new ≡ with_new nat_eq now (variable_numbers (term_of t))
-    → with_new nat_eq new (variable_numbers_among (terms_of (drop (i + 1) terms))) ≡ start
+    → with_new nat_eq now (variable_numbers_among (bare_terms_of (drop i terms))) ≡ start
+    → new ≡ with_new nat_eq now (numbers_in_term (term_of t))
+    → with_new nat_eq new (variable_numbers_among (bare_terms_of (drop (i + 1) terms))) ≡ start
 collected_more terms i t now new start within is so_far one =
-    let rest : List ℕ = variable_numbers_among (terms_of (drop (i + 1) terms)) in
+    let rest : List ℕ = variable_numbers_among (bare_terms_of (drop (i + 1) terms)) in
     let next : drop i terms ≡ t ∷ drop (i + 1) terms =
     drop_more terms i t within ∙ ap (λ (u : Term). u ∷ drop (i + 1) terms) (sym is) in
-    ap (λ (ns : List ℕ). with_new nat_eq ns rest) one ∙ sym (new_twice now (variable_numbers (term_of t)) rest)
-    ∙ ap (λ (ts : List Term). with_new nat_eq now (variable_numbers_among (terms_of ts))) (sym next) ∙ so_far
-
-pub collected_all : (terms : List Term) (i : ℕ) (now start : List ℕ) → length terms ≤ i
-    → with_new nat_eq now (variable_numbers_among (terms_of (drop i terms))) ≡ start → now ≡ start
-collected_all terms i now start past so_far =
-    ap (λ (ts : List Term). with_new nat_eq now (variable_numbers_among (terms_of ts))) (sym (drop_all i terms past)) ∙ so_far
+    ap (λ (ns : List ℕ). with_new nat_eq ns rest) one ∙ sym (new_twice now (numbers_in_term (term_of t)) rest)
+    ∙ ap (λ (ts : List Term). with_new nat_eq now (variable_numbers_among (bare_terms_of ts))) (sym next) ∙ so_far
 
 -- ---- Where a number stands.
 
@@ -97,11 +92,6 @@ variables_more scope order i n made more whole inside is grown so_far =
     ap (λ (vs : List Variable). vs ++ rest) grown ∙ append_assoc made (declared_as i (slice_get scope n)) rest
     ∙ ap (λ (k : ℕ). made ++ (declared_as i (slice_get scope k) ++ rest)) is
     ∙ ap (λ (vs : List Variable). made ++ vs) (sym (declared_more scope order i inside)) ∙ so_far
-
-pub variables_all : (scope : List Variable) (order : List ℕ) (i : ℕ) (made whole : List Variable) → length order ≤ i
-    → made ++ declared_from scope i (drop i order) ≡ whole → made ≡ whole
-variables_all scope order i made whole past so_far =
-    sym (append-nil made) ∙ ap (λ (ns : List ℕ). made ++ declared_from scope i ns) (sym (drop_all i order past)) ∙ so_far
 
 -- a variable that is in scope, or none
 pub not_in_scope : (made : List Variable) (scope : List CodeVariable) (number old : ℕ) → slice_get scope old ≡ None

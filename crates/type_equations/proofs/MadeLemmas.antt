@@ -8,21 +8,21 @@ use Rattle.sort_terms.specs.ProfiledTerm.{ProfiledTerm, bare, IsOf}
 use Rattle.sort_terms.specs.TermView.{term_of}
 use Rattle.sort_terms.specs.declared.terms.Term.{Term}
 use Rattle.type_definitions.specs.Presentation.{with_new}
-use Rattle.type_definitions.specs.DeclaredEquations.{variable_numbers, appearing, renumbered, declared_from, equation_of_sides}
+use Rattle.type_definitions.specs.DeclaredEquations.{numbers_in_term, appearing, renumbered, declared_from, equation_of_sides}
 use Rattle.type_equations.specs.ProfiledNumbering.{profiled_renumbered}
 use Rattle.type_equations.proofs.CollectLemmas.{new_twice}
 use Rattle.type_equations.proofs.NumberingLemmas.{numbered_bare, numbered_of}
 
 -- the order in which the variables of two sides appear
 pub order_is : (none one both : List ℕ) (l r left right : Term) → none ≡ [] → l ≡ left → r ≡ right
-    → one ≡ with_new nat_eq none (variable_numbers (term_of l)) → both ≡ with_new nat_eq one (variable_numbers (term_of r))
+    → one ≡ with_new nat_eq none (numbers_in_term (term_of l)) → both ≡ with_new nat_eq one (numbers_in_term (term_of r))
     → both ≡ appearing (term_of left) (term_of right)
 order_is none one both l r left right empty l-is r-is first second =
-    second ∙ ap (λ (ns : List ℕ). with_new nat_eq ns (variable_numbers (term_of r))) first
-    ∙ ap (λ (ns : List ℕ). with_new nat_eq (with_new nat_eq ns (variable_numbers (term_of l))) (variable_numbers (term_of r))) empty
-    ∙ ap (λ (t : Term). with_new nat_eq (with_new nat_eq [] (variable_numbers (term_of t))) (variable_numbers (term_of r))) l-is
-    ∙ ap (λ (t : Term). with_new nat_eq (with_new nat_eq [] (variable_numbers (term_of left))) (variable_numbers (term_of t))) r-is
-    ∙ sym (new_twice [] (variable_numbers (term_of left)) (variable_numbers (term_of right)))
+    second ∙ ap (λ (ns : List ℕ). with_new nat_eq ns (numbers_in_term (term_of r))) first
+    ∙ ap (λ (ns : List ℕ). with_new nat_eq (with_new nat_eq ns (numbers_in_term (term_of l))) (numbers_in_term (term_of r))) empty
+    ∙ ap (λ (t : Term). with_new nat_eq (with_new nat_eq [] (numbers_in_term (term_of t))) (numbers_in_term (term_of r))) l-is
+    ∙ ap (λ (t : Term). with_new nat_eq (with_new nat_eq [] (numbers_in_term (term_of left))) (numbers_in_term (term_of t))) r-is
+    ∙ sym (new_twice [] (numbers_in_term (term_of left)) (numbers_in_term (term_of right)))
 
 abbrev equation_with : Place → List Variable → PlainTerm → PlainTerm → Equation
 equation_with place variables left right = record { place = place; variables = variables; left = left; right = right }

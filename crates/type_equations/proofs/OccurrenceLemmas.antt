@@ -12,7 +12,7 @@ use Rattle.sort_terms.specs.Reading.{Reads, AllRead}
 use Rattle.type_definitions.specs.TypeGraph.{is_among}
 use Rattle.type_definitions.proofs.NumberLists.{among_left, among_right, among_cases, among_one, one_among, among_none}
 use Rattle.type_definitions.specs.Presentation.{with_new, first_position}
-use Rattle.type_definitions.specs.DeclaredEquations.{variable_numbers, variable_numbers_among, renumbered, renumbered_among}
+use Rattle.type_definitions.specs.DeclaredEquations.{numbers_in_term, variable_numbers_among, renumbered, renumbered_among}
 use Rattle.type_equations.specs.SideLaws.{AreNumberedByPosition}
 
 -- ---- In a reading.
@@ -83,7 +83,7 @@ mutual
 -- ---- Numbers of variables.
 
 mutual
-  pub numbers_have : (t : Term) (n s : ℕ) → Occurs n s t → is_among (variable_numbers t) n ≡ true
+  pub numbers_have : (t : Term) (n s : ℕ) → Occurs n s t → is_among (numbers_in_term t) n ≡ true
   numbers_have (variable m r) n s o = one_among m n (sym o.0)
   numbers_have (node f ts) n s o = numbers_among_have ts n s o
 
@@ -91,19 +91,19 @@ mutual
   numbers_among_have no_terms n s o = absurd o
   numbers_among_have (term_then t ts) n s o =
       elim o [
-        | inl here ↦ among_left (variable_numbers t) (variable_numbers_among ts) n (numbers_have t n s here)
-        | inr there ↦ among_right (variable_numbers t) (variable_numbers_among ts) n (numbers_among_have ts n s there)
+        | inl here ↦ among_left (numbers_in_term t) (variable_numbers_among ts) n (numbers_have t n s here)
+        | inr there ↦ among_right (numbers_in_term t) (variable_numbers_among ts) n (numbers_among_have ts n s there)
       ]
 
 mutual
-  pub occurs_numbered : (t : Term) (n : ℕ) → is_among (variable_numbers t) n ≡ true → (s : ℕ) × Occurs n s t
+  pub occurs_numbered : (t : Term) (n : ℕ) → is_among (numbers_in_term t) n ≡ true → (s : ℕ) × Occurs n s t
   occurs_numbered (variable m r) n h = (r, (sym (among_one m n h), refl))
   occurs_numbered (node f ts) n h = occurs_numbered_among ts n h
 
   occurs_numbered_among : (ts : Terms) (n : ℕ) → is_among (variable_numbers_among ts) n ≡ true → (s : ℕ) × OccursAmong n s ts
   occurs_numbered_among no_terms n h = among_none n h
   occurs_numbered_among (term_then t ts) n h =
-      elim (among_cases (variable_numbers t) (variable_numbers_among ts) n h) [
+      elim (among_cases (numbers_in_term t) (variable_numbers_among ts) n h) [
         | inl here ↦ let at = occurs_numbered t n here in (at.0, inl at.1)
         | inr there ↦ let at = occurs_numbered_among ts n there in (at.0, inr at.1)
       ]

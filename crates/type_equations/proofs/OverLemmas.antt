@@ -14,7 +14,7 @@ use Rattle.sort_terms.proofs.ReadsLemmas.{reads_sorted}
 use Rattle.type_definitions.specs.TypeGraph.{is_among}
 use Rattle.type_definitions.proofs.NumberLists.{among_left, among_right, among_cases, among_none}
 use Rattle.type_definitions.specs.Presentation.{Presentation}
-use Rattle.type_definitions.specs.DeclaredEquations.{variable_numbers, appearing, renumbered, declared_as, declared_from, scope_from, equation_of_sides}
+use Rattle.type_definitions.specs.DeclaredEquations.{numbers_in_term, appearing, renumbered, declared_as, declared_from, scope_from, equation_of_sides}
 use Rattle.type_equations.specs.SideLaws.{AreNumberedByPosition, ScopesAreNumbered, SidesMakeAnEquation}
 use Rattle.type_equations.proofs.OccurrenceLemmas.{IsInScope, in_scope, renumbered_sorted, old_number, numbers_have, occurs_numbered, comes, adds_nothing, stands_there}
 
@@ -82,10 +82,10 @@ appearing_there : (signature : Signature) (scope : List Variable) (one other : W
     → AreNumberedByPosition scope → Reads signature scope one left sort → Reads signature scope other right sort
     → AreInScope scope (appearing left right)
 appearing_there signature scope one other left right sort numbered first second = λ m h.
-    elim (adds_nothing [] (variable_numbers left ++ variable_numbers right) m h) [
+    elim (adds_nothing [] (numbers_in_term left ++ numbers_in_term right) m h) [
       | inl none ↦ among_none m none
       | inr there ↦
-          elim (among_cases (variable_numbers left) (variable_numbers right) m there) [
+          elim (among_cases (numbers_in_term left) (numbers_in_term right) m there) [
             | inl in_left ↦
                 let at = occurs_numbered left m in_left in (at.0, in_scope signature scope numbered one left sort m at.0 first at.1)
             | inr in_right ↦
@@ -96,7 +96,7 @@ appearing_there signature scope one other left right sort numbered first second 
 -- a variable of a side, whose numbers are among those that appear, is declared
 declared_in : (signature : Signature) (scope : List Variable) (place : Place) (left right : Term) (w : WrittenTerm) (side : Term)
     (sort : ℕ) → AreNumberedByPosition scope → AreInScope scope (appearing left right) → Reads signature scope w side sort
-    → ((m : ℕ) → is_among (variable_numbers side) m ≡ true → is_among (appearing left right) m ≡ true) → (n s : ℕ)
+    → ((m : ℕ) → is_among (numbers_in_term side) m ≡ true → is_among (appearing left right) m ≡ true) → (n s : ℕ)
     → Occurs n s (renumbered (appearing left right) side) → IsDeclared (equation_of_sides place scope left right) n s
 declared_in signature scope place left right w side sort numbered there reads appears n s o =
     let order : List ℕ = appearing left right in
@@ -123,9 +123,9 @@ sides_over signature scope place one other left right sort over numbered first s
       let right_number : w.number ≡ 0 + j = ap (λ (x : Variable). x.number) other_is.3 in
       omega (arith, left_number, right_number, same);
   left_declared = declared_in signature scope place left right one left sort numbered there first (λ m h.
-      comes [] (variable_numbers left ++ variable_numbers right) m (among_left (variable_numbers left) (variable_numbers right) m h));
+      comes [] (numbers_in_term left ++ numbers_in_term right) m (among_left (numbers_in_term left) (numbers_in_term right) m h));
   right_declared = declared_in signature scope place left right other right sort numbered there second (λ m h.
-      comes [] (variable_numbers left ++ variable_numbers right) m (among_right (variable_numbers left) (variable_numbers right) m h));
+      comes [] (numbers_in_term left ++ numbers_in_term right) m (among_right (numbers_in_term left) (numbers_in_term right) m h));
 }
   where
     order : List ℕ

@@ -1,11 +1,11 @@
 -- The scope of a group whose variables are in it behind those of the section.
-use Rattle.std.proofs.Common.{◌≡◌, ◌++◌, ℕ, Bool, true, nat_eq, List, [], ◌∷◌, length, map, refl, ap, sym, ◌∙◌, arith}
+use Rattle.std.proofs.Common.{◌≡◌, ◌++◌, ℕ, true, List, map, ap, sym, ◌∙◌}
 use Rattle.std.specs.Prelude.{slice_get}
 use Rattle.lotos_base.specs.Name.{spelling}
 use Rattle.lotos_base.specs.WrittenView.{text_place_of}
 use Rattle.lotos_base.specs.Equation.{Variable}
 use Rattle.lotos_base.specs.Signature.{Signature}
-use Rattle.syntax_trees.specs.TreeViews.{group_of, variables_of}
+use Rattle.syntax_trees.specs.TreeViews.{group_of, written_variables_of}
 use Rattle.syntax_trees.specs.WrittenVariable.{WrittenVariable}
 use Rattle.syntax_trees.specs.declared.equations.GroupText.{GroupText}
 use Rattle.sort_terms.specs.EquationView.{variable_of}
@@ -21,26 +21,20 @@ use Rattle.type_equations.proofs.AskedLemmas.{give_both, sorts_there}
 pub scope_given : (p : Presentation) (variables : List WrittenVariable) (g : GroupText) (scope : EquationScope) {signature : Signature}
     {sort : ℕ}
     → p.signature ≡ signature → GiveAll p (asked_of_variables variables) p → is_sort_name p.signature (spelling g.sort) ≡ true
-    → sort ≡ sort_numbered p (spelling g.sort) → GiveAll p (asked_of_variables (variables_of g.variables.items)) p
-    → scope.sort ≡ sort → map variable_of scope.variables.now ≡ scope_from p 0 (variables ++ variables_of g.variables.items)
-    → variables_in scope.scope.now ≡ scope_from p 0 (variables ++ variables_of g.variables.items)
-    → GiveAll p (sorts_asked (group_of g)) p × IsScopeFor p (variables ++ variables_of g.variables.items) (spelling g.sort) scope
+    → sort ≡ sort_numbered p (spelling g.sort) → GiveAll p (asked_of_variables (written_variables_of g.variables.items)) p
+    → scope.sort ≡ sort → map variable_of scope.variables.now ≡ scope_from p 0 (variables ++ written_variables_of g.variables.items)
+    → variables_in scope.scope.now ≡ scope_from p 0 (variables ++ written_variables_of g.variables.items)
+    → GiveAll p (sorts_asked (group_of g)) p × IsScopeFor p (variables ++ written_variables_of g.variables.items) (spelling g.sort) scope
 scope_given p variables g scope same given there at own sort_is all named = (
-  next_gives p p p (sort_asked (text_place_of g.place) (spelling g.sort)) (asked_of_variables (variables_of g.variables.items))
+  next_gives p p p (sort_asked (text_place_of g.place) (spelling g.sort)) (asked_of_variables (written_variables_of g.variables.items))
       (sort_is_there (text_place_of g.place) (spelling g.sort) there) own,
   record {
     variables_are = all;
     scope_is = named;
     over = λ i v found.
-        sorts_there p 0 (variables ++ variables_of g.variables.items) (give_both p variables (variables_of g.variables.items) given own) i v
+        sorts_there p 0 (variables ++ written_variables_of g.variables.items)
+        (give_both p variables (written_variables_of g.variables.items) given own) i v
         (ap (λ (vs : List Variable). slice_get vs i) (sym named) ∙ found);
     sort_is = sort_is ∙ at;
   },
 )
-
--- a list without members, by its length
-pub no_members : {X : Type 0} (xs : List X) (number : ℕ) (result : Bool) → number ≡ length xs → result ≡ nat_eq number 0 → result ≡ true
-    → xs ≡ []
-no_members [] number result n r e = refl
-no_members (x ∷ xs) number result n r e =
-    let computed : nat_eq (length (x ∷ xs)) 0 ≡ true = ap (λ k. nat_eq k 0) (sym n) ∙ sym r ∙ e in grind arith

@@ -8,7 +8,7 @@ use Rattle.lotos_base.specs.WrittenTerm.{WrittenTerm, written_head}
 use Rattle.lotos_base.specs.Signature.{Signature}
 use Rattle.lotos_base.specs.Equation.{Place, Variable, Equation, IsEquationOver}
 use Rattle.lotos_base.specs.Term.{Term}
-use Rattle.syntax_trees.specs.TreeViews.{equation_of, variables_of}
+use Rattle.syntax_trees.specs.TreeViews.{written_equation_of, written_variables_of}
 use Rattle.syntax_trees.specs.WrittenEquation.{WrittenEquation}
 use Rattle.syntax_trees.specs.declared.equations.EqText.{EqText}
 use Rattle.syntax_trees.specs.declared.equations.EqnsText.{EqnsText}
@@ -132,38 +132,39 @@ grown_with_sides p q asked scope place left right e is at made grown =
 -- ---- The variables of a section.
 
 pub sorts_given : (p : Presentation) (s : EqnsText) (texts : List VarText) → texts ≡ s.variables.items
-    → GiveAll p (asked_of_variables (variables_of texts)) p → GiveAll p (asked_of_variables (variables_of s.variables.items)) p
-sorts_given p s texts are given = subst (λ (vs : List VarText). GiveAll p (asked_of_variables (variables_of vs)) p) are given
+    → GiveAll p (asked_of_variables (written_variables_of texts)) p
+    → GiveAll p (asked_of_variables (written_variables_of s.variables.items)) p
+sorts_given p s texts are given = subst (λ (vs : List VarText). GiveAll p (asked_of_variables (written_variables_of vs)) p) are given
 
 pub section_is : (p : Presentation) (signature : Signature) (s : EqnsText) (old new : List CodeVariable) (texts : List VarText)
     (section : List CodeVariable) → old ≡ [] → texts ≡ s.variables.items → section ≡ new → p.signature ≡ signature
-    → GiveAll p (asked_of_variables (variables_of texts)) p
-    × (map variable_of new ≡ map variable_of old ++ scope_from p (length old) (variables_of texts))
-    → IsSectionFor p (variables_of s.variables.items) signature section
+    → GiveAll p (asked_of_variables (written_variables_of texts)) p
+    × (map variable_of new ≡ map variable_of old ++ scope_from p (length old) (written_variables_of texts))
+    → IsSectionFor p (written_variables_of s.variables.items) signature section
 section_is p signature s old new texts section none are is same added = record {
   same = same;
-  given = subst (λ (vs : List VarText). GiveAll p (asked_of_variables (variables_of vs)) p) are added.0;
+  given = subst (λ (vs : List VarText). GiveAll p (asked_of_variables (written_variables_of vs)) p) are added.0;
   variables_are =
       ap (λ (vs : List CodeVariable). map variable_of vs) is ∙ added.1
-      ∙ ap (λ (vs : List CodeVariable). map variable_of vs ++ scope_from p (length vs) (variables_of texts)) none
-      ∙ ap (λ (vs : List VarText). scope_from p 0 (variables_of vs)) are;
+      ∙ ap (λ (vs : List CodeVariable). map variable_of vs ++ scope_from p (length vs) (written_variables_of texts)) none
+      ∙ ap (λ (vs : List VarText). scope_from p 0 (written_variables_of vs)) are;
 }
 
 -- ---- An equation of the type's own.
 
 pub premised_here : (p : Presentation) (type_name : List ℕ) (asked : AskedEquation) (e : EqText) (arrow : CodePlace)
-    → asked.equation ≡ equation_of e → e.arrow ≡ Some arrow
+    → asked.equation ≡ written_equation_of e → e.arrow ≡ Some arrow
     → QuestionHasFault p type_name (own_asked asked) (premised (text_place_of arrow))
 premised_here p type_name asked e arrow is there =
     own_has_premisses asked (text_place_of arrow)
     (ap (λ (d : WrittenEquation). d.arrow) is ∙ ap (λ (o : Option CodePlace). option_map text_place_of o) there)
 
-pub no_arrow : (asked : AskedEquation) (e : EqText) → asked.equation ≡ equation_of e → e.arrow ≡ None → asked.equation.arrow ≡ None
+pub no_arrow : (asked : AskedEquation) (e : EqText) → asked.equation ≡ written_equation_of e → e.arrow ≡ None → asked.equation.arrow ≡ None
 no_arrow asked e is none =
     ap (λ (d : WrittenEquation). d.arrow) is ∙ ap (λ (o : Option CodePlace). option_map text_place_of o) none
 
 -- its place
-pub place_is : (asked : AskedEquation) (e : EqText) → asked.equation ≡ equation_of e → asked.equation.place ≡ text_place_of e.place
+pub place_is : (asked : AskedEquation) (e : EqText) → asked.equation ≡ written_equation_of e → asked.equation.place ≡ text_place_of e.place
 place_is asked e is = ap (λ (d : WrittenEquation). d.place) is
 
 pub own_given : (p q : Presentation) (asked : AskedEquation) (left right : Term) → asked.equation.arrow ≡ None

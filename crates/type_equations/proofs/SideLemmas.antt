@@ -4,11 +4,11 @@ use Rattle.std.specs.Prelude.{Option, Some}
 use Rattle.lotos_base.specs.WrittenTerm.{WrittenTerm, written_head}
 use Rattle.lotos_base.specs.Signature.{Signature}
 use Rattle.lotos_base.specs.Equation.{Variable}
-use Rattle.sort_terms.specs.ReadingOutcome.{ReadingRefusal, SortedTerm, SortedPair, ReadingOutcome, answered, refused, ReadingIs, PairReadingIs, ComesTo, IsReading, unknown_in}
+use Rattle.sort_terms.specs.ReadingOutcome.{ReadingRefusal, SortedTerm, ReadingOutcome, answered, refused, ReadingIs, ComesTo, IsReading, unknown_in}
 use Rattle.type_definitions.specs.TypeFault.{TypeFault}
 use Rattle.type_definitions.specs.Presentation.{Presentation}
 use Rattle.type_definitions.specs.Declarations.{sort_numbered}
-use Rattle.type_definitions.specs.DeclaredEquations.{AskedEquation, scope_of, fault_of, IsSide, IsSideFault, IsFaultOfSides}
+use Rattle.type_definitions.specs.DeclaredEquations.{AskedEquation, scope_of, type_fault_of, IsSide, IsSideFault, IsFaultOfSides}
 use Rattle.syntax_trees.specs.WrittenEquation.{WrittenEquation}
 use Rattle.lotos_base.specs.Term.{Term}
 use Rattle.sort_terms.specs.RefusalView.{UnlessNoMemory}
@@ -23,13 +23,6 @@ read_over p asked signature variables one other side outcome over scope sort rea
     subst (λ (s : Signature). ReadingIs s (scope_of p asked) side other outcome) (sym over)
     (subst (λ (vs : List Variable). ReadingIs signature vs side other outcome) scope
     (subst (λ (o : Option ℕ). ReadingIs signature variables side o outcome) sort read))
-
-pub pair_read_over : (p : Presentation) (asked : AskedEquation) (signature : Signature) (variables : List Variable)
-    (left right : WrittenTerm) (outcome : ReadingOutcome SortedPair) → p.signature ≡ signature → variables ≡ scope_of p asked
-    → PairReadingIs signature variables left right outcome → PairReadingIs p.signature (scope_of p asked) left right outcome
-pair_read_over p asked signature variables left right outcome over scope read =
-    subst (λ (s : Signature). PairReadingIs s (scope_of p asked) left right outcome) (sym over)
-    (subst (λ (vs : List Variable). PairReadingIs signature vs left right outcome) scope read)
 
 -- a reading has the sort that is expected
 pub of_expected_sort : (signature : Signature) (variables : List Variable) (side : WrittenTerm) (sort : ℕ) (reading : SortedTerm)
@@ -58,7 +51,7 @@ side_read p asked signature variables sort side reading over scope at read = (
 pub side_refused : (p : Presentation) (asked : AskedEquation) (signature : Signature) (variables : List Variable) (sort : ℕ)
     (side : WrittenTerm) (refusal : ReadingRefusal) → p.signature ≡ signature → variables ≡ scope_of p asked
     → sort ≡ sort_numbered p asked.sort
-    → ReadingIs signature variables side (Some sort) (refused refusal) → IsSideFault p asked side (fault_of refusal)
+    → ReadingIs signature variables side (Some sort) (refused refusal) → IsSideFault p asked side (type_fault_of refusal)
 side_refused p asked signature variables sort side refusal over scope at read = (
   refusal,
   read_over p asked signature variables (Some sort) (Some (sort_numbered p asked.sort)) side (refused refusal) over scope

@@ -1,24 +1,18 @@
 -- Results of operations by their keys, and the marks that follow from them.
-use Rattle.std.proofs.Common.{◌≡◌, ℕ, zero, suc, Bool, true, false, cond, List, [], ◌∷◌, ◌++◌, map, refl, ap, sym, ◌∙◌, not, nat_eq}
-use Rattle.std.specs.Prelude.{◌||◌, ◌&&◌, Option, None, Some, Vec, slice_get}
+use Rattle.std.proofs.Common.{◌≡◌, ℕ, Bool, true, false, cond, List, [], ◌∷◌, ◌++◌, refl, ap, sym, ◌∙◌, not, nat_eq}
+use Rattle.std.specs.Prelude.{◌||◌, ◌&&◌, Option, Some, Vec}
 use Rattle.std.specs.declared.alloc.Global.{Global}
 use Rattle.std.specs.List.{list_any}
 use Rattle.std.specs.Str.{bytes_eq}
 use Rattle.std.proofs.lemmas.List.Folds.{list_any-append}
-use Rattle.std.proofs.lemmas.Option.{same_Some}
 use Rattle.lotos_base.proofs.Bytes.{bytes_same, same_bytes}
-use Rattle.lotos_base.specs.Signature.{Operation, Signature}
+use Rattle.lotos_base.specs.Signature.{Operation}
 use Rattle.lotos_base.specs.Twins.{are_twins, has_twin}
-use Rattle.sort_terms.specs.TwinMarks.{AreTwinMarks, twin_marks}
 use Rattle.type_presentations.specs.Keys.{twin_key}
 use Rattle.type_presentations.specs.KeyLaws.{twins}
 use Rattle.type_equations.specs.OtherResults.{has_other}
 use Rattle.type_equations.specs.ResultsView.{TellTwins, known_under}
 use Rattle.type_equations.specs.declared.twins.ResultsByKey.{ResultsByKey}
-
--- nothing is known of no operations
-pub none_known : (results : ResultsByKey) → ((key : Vec ℕ Global) → known_under results key ≡ None) → TellTwins [] results
-none_known results none = λ key operation at. ap (λ known. has_other known operation.result) (none key)
 
 or_false : (b : Bool) → (b || false) ≡ b
 or_false true = refl
@@ -63,18 +57,3 @@ one_more operations before after added key common is grown other tell = λ q o a
         one_key o added false (differing q o at apart (bytes_eq (twin_key o) (twin_key added)) refl) in
         ap (λ k. has_other k o.result) known ∙ tell q o at ∙ sym (or_false (list_any (are_twins o) operations))
         ∙ ap (λ (b : Bool). list_any (are_twins o) operations || b) (sym twin)
-
--- ---- Marks of all operations.
-
-mapped : {A : Type 0} {B : Type 0} (f : A → B) (xs : List A) (n : ℕ) (x : A) (y : B) → Some x ≡ slice_get xs n
-    → slice_get (map f xs) n ≡ Some y → y ≡ f x
-mapped f [] zero x y at is = cc
-mapped f [] (suc n) x y at is = cc
-mapped f (first ∷ xs) zero x y at is =
-    sym (same_Some (f first) y is) ∙ sym (ap f (same_Some x first at))
-mapped f (first ∷ xs) (suc n) x y at is = mapped f xs n x y at is
-
-pub all_marks : (signature : Signature) (marks : List Bool) → marks ≡ twin_marks signature.operations → AreTwinMarks signature marks
-all_marks signature marks are = λ number operation mark at is.
-    mapped (λ o. list_any (are_twins o) signature.operations) signature.operations number operation mark at
-    (ap (λ ms. slice_get ms number) (sym are) ∙ is)

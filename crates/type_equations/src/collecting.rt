@@ -1,8 +1,8 @@
 //! The numbers of the variables in a term.
 
-ghost use Rattle.sort_terms.specs.TermView.{term_of, terms_of};
+ghost use Rattle.sort_terms.specs.TermView.{term_of, bare_terms_of};
 ghost use Rattle.std.specs.Prelude.{◌≡◌, OnOk, nat_eq};
-ghost use Rattle.type_definitions.specs.DeclaredEquations.{variable_numbers, variable_numbers_among};
+ghost use Rattle.type_definitions.specs.DeclaredEquations.{numbers_in_term, variable_numbers_among};
 ghost use Rattle.type_definitions.specs.Presentation.{with_new};
 
 use indexmap::IndexSet;
@@ -13,7 +13,7 @@ use sort_terms::Term;
 #[cycle(collecting)]
 pub fn collect(term: &Term, order: &mut IndexSet<u64>) -> Result<(), NoMemory>
     ensures { OnOk result (order.new.keys
-        ≡ with_new nat_eq order.old.keys (variable_numbers (term_of term.now))) }
+        ≡ with_new nat_eq order.old.keys (numbers_in_term (term_of term.now))) }
 {
     match term {
         Term::Var { number, .. } => {
@@ -28,7 +28,7 @@ pub fn collect(term: &Term, order: &mut IndexSet<u64>) -> Result<(), NoMemory>
 #[cycle(collecting)]
 fn collect_all(terms: &Vec<Term>, order: &mut IndexSet<u64>) -> Result<(), NoMemory>
     ensures { OnOk result (order.new.keys
-        ≡ with_new nat_eq order.old.keys (variable_numbers_among (terms_of terms.now.items))) }
+        ≡ with_new nat_eq order.old.keys (variable_numbers_among (bare_terms_of terms.now.items))) }
 {
     for term in terms {
         collect(term, order)?;

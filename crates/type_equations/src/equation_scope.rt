@@ -5,7 +5,7 @@ ghost use Rattle.sort_terms.specs.EquationView.{variable_of};
 ghost use Rattle.sort_terms.specs.ScopeView.{variables_in};
 ghost use Rattle.sort_terms.specs.ReaderView.{signature_read};
 ghost use Rattle.std.specs.Prelude.{◌≡◌, ◌∷◌, ◌++◌, ℕ, List, IfOk, MatchResult, map};
-ghost use Rattle.syntax_trees.specs.TreeViews.{group_of, variables_of};
+ghost use Rattle.syntax_trees.specs.TreeViews.{group_of, written_variables_of};
 ghost use Rattle.syntax_trees.specs.WrittenVariable.{WrittenVariable};
 ghost use Rattle.type_definitions.specs.FaultView.{HoldsOfFault};
 ghost use Rattle.type_definitions.specs.DeclaredEquations.{
@@ -95,7 +95,7 @@ impl<'a> EquationScope<'a> {
             → p.signature ≡ signature_read reader.now → GiveAll p (asked_of_variables variables) p
             → map variable_of section.now.variables.items ≡ scope_from p 0 variables
             → MatchResult result (λ scope. GiveAll p (sorts_asked (group_of group.now)) p
-            × IsScopeFor p (variables ++ variables_of group.now.variables.items)
+            × IsScopeFor p (variables ++ written_variables_of group.now.variables.items)
             (spelling group.now.sort) scope)
             (λ fault. HoldsOfFault fault (λ f. (type_name : List ℕ) → HasFirstFault type_name p
             (sorts_asked (group_of group.now)) f)) }

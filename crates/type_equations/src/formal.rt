@@ -5,7 +5,7 @@ ghost use Rattle.type_equations.specs.Truth.{IsTruth};
 ghost use Rattle.type_equations.specs.SectionScope.{IsSectionFor};
 ghost use Rattle.sort_terms.specs.ReaderView.{signature_read};
 ghost use Rattle.std.specs.Prelude.{◌≡◌, true, ℕ, List, MatchResult};
-ghost use Rattle.syntax_trees.specs.TreeViews.{equation_of, equations_of, group_of};
+ghost use Rattle.syntax_trees.specs.TreeViews.{written_equation_of, equations_of, group_of};
 ghost use Rattle.syntax_trees.specs.WrittenVariable.{WrittenVariable};
 ghost use Rattle.type_definitions.specs.FaultView.{HoldsOfFault};
 ghost use Rattle.type_definitions.specs.DeclaredEquations.{
@@ -92,7 +92,7 @@ fn check_equation(
     ensures { (p : PlainPresentation) (asked : AskedEquation)
         → p.signature ≡ signature_read reader.now
         → IsScopeFor p asked.variables asked.sort scope.now
-        → IsTruth p truth → asked.equation ≡ equation_of equation.now → MatchResult result
+        → IsTruth p truth → asked.equation ≡ written_equation_of equation.now → MatchResult result
         (λ _. GivesPresentation p (formal_asked asked) p)
         (λ fault. HoldsOfFault fault (λ f. (type_name : List ℕ)
         → QuestionHasFault p type_name (formal_asked asked) f)) }

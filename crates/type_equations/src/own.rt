@@ -5,7 +5,7 @@ ghost use Rattle.lotos_base.specs.Name.{spelling};
 ghost use Rattle.type_equations.specs.SectionScope.{IsSectionFor};
 ghost use Rattle.sort_terms.specs.ReaderView.{signature_read};
 ghost use Rattle.std.specs.Prelude.{◌≡◌, false, List, MatchResult, OnOk};
-ghost use Rattle.syntax_trees.specs.TreeViews.{equation_of, equations_of, group_of};
+ghost use Rattle.syntax_trees.specs.TreeViews.{written_equation_of, equations_of, group_of};
 ghost use Rattle.syntax_trees.specs.WrittenVariable.{WrittenVariable};
 ghost use Rattle.type_definitions.specs.FaultView.{HoldsOfFault};
 ghost use Rattle.type_definitions.specs.DeclaredEquations.{
@@ -110,10 +110,10 @@ fn add_equation(
     requires same { (presentation_of presentation.old).signature ≡ signature_read reader.now }
     requires scoped { (asked : AskedEquation)
         × IsScopeFor (presentation_of presentation.old) asked.variables asked.sort scope.now
-        × (asked.equation ≡ equation_of equation.now) }
+        × (asked.equation ≡ written_equation_of equation.now) }
     ensures given { (asked : AskedEquation)
         → IsScopeFor (presentation_of presentation.old) asked.variables asked.sort scope.now
-        → asked.equation ≡ equation_of equation.now → MatchResult result
+        → asked.equation ≡ written_equation_of equation.now → MatchResult result
         (λ _. GivesPresentation (presentation_of presentation.old) (own_asked asked)
         (presentation_of presentation.new))
         (λ fault. HoldsOfFault fault (QuestionHasFault (presentation_of presentation.old)

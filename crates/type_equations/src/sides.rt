@@ -5,7 +5,7 @@ ghost use Rattle.sort_terms.specs.ProfiledTerm.{IsOf};
 ghost use Rattle.sort_terms.specs.ReaderView.{signature_read};
 ghost use Rattle.sort_terms.specs.SortedView.{profiled_in, term_in};
 ghost use Rattle.std.specs.Prelude.{◌≡◌, MatchResult};
-ghost use Rattle.syntax_trees.specs.TreeViews.{equation_of};
+ghost use Rattle.syntax_trees.specs.TreeViews.{written_equation_of};
 ghost use Rattle.type_definitions.specs.FaultView.{HoldsOfFault};
 ghost use Rattle.type_definitions.specs.DeclaredEquations.{AskedEquation, IsFaultOfSides, IsSide};
 ghost use Rattle.type_definitions.specs.Presentation.{Presentation as PlainPresentation};
@@ -28,7 +28,7 @@ pub fn read_sides(
     ensures { (p : PlainPresentation) (asked : AskedEquation)
         → p.signature ≡ signature_read reader.now
         → IsScopeFor p asked.variables asked.sort scope.now
-        → asked.equation ≡ equation_of equation.now → MatchResult result
+        → asked.equation ≡ written_equation_of equation.now → MatchResult result
         (λ sides. IsSide p asked asked.equation.left (term_in sides.0)
         × IsSide p asked asked.equation.right (term_in sides.1)
         × IsOf p.signature (profiled_in sides.0) × IsOf p.signature (profiled_in sides.1)

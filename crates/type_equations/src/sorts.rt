@@ -17,7 +17,7 @@ ghost use Rattle.std.specs.Prelude.{
   length,
   map,
 };
-ghost use Rattle.syntax_trees.specs.TreeViews.{variables_of};
+ghost use Rattle.syntax_trees.specs.TreeViews.{written_variables_of};
 ghost use Rattle.type_definitions.specs.FaultView.{HoldsOfFault};
 ghost use Rattle.type_definitions.specs.DeclaredEquations.{
   GiveAll,
@@ -66,11 +66,12 @@ pub fn add_variables(
     written: &[VarText],
 ) -> Result<(), TypeFault>
     ensures { (p : PlainPresentation) → p.signature ≡ signature_read reader.now
-        → MatchResult result (λ _. GiveAll p (asked_of_variables (variables_of written.now)) p
+        → MatchResult result
+        (λ _. GiveAll p (asked_of_variables (written_variables_of written.now)) p
         × (map variable_of variables.new.items ≡ map variable_of variables.old.items
-        ++ scope_from p (length variables.old.items) (variables_of written.now)))
+        ++ scope_from p (length variables.old.items) (written_variables_of written.now)))
         (λ fault. HoldsOfFault fault (λ f. (type_name : List ℕ) → HasFirstFault type_name p
-        (asked_of_variables (variables_of written.now)) f)) }
+        (asked_of_variables (written_variables_of written.now)) f)) }
 {
     for text in written {
         let sort = sort_at(alloc, reader, text.sort_place, &text.sort)?;

@@ -2,13 +2,17 @@
 use Rattle.std.proofs.Common.{◌≡◌, ◌<◌, ℕ, zero, suc, Bool, true, false, ◌&&◌, ◌||◌, not, nat_eq, nat_lt, if◌then◌else◌, List, [], ◌∷◌, ◌++◌, length, map, slice_get, Option, None, Some, refl, ap, sym, ◌∙◌, subst, arith, eqb-true}
 use Rattle.std.specs.List.{list_any}
 use Rattle.std.specs.Str.{bytes_eq}
-use Rattle.std.proofs.lemmas.Bool.{eq-eqb}
+use Rattle.std.proofs.lemmas.Bool.{eq-eqb, and_from, not-true, and_parts}
 use Rattle.std.proofs.lemmas.Option.{same_Some}
+use Rattle.std.proofs.lemmas.Map.Keys.{any_passes_from_place}
 use Rattle.lotos_base.proofs.Bytes.{same_bytes, bytes_same}
 use Rattle.lotos_base.specs.Equation.{Place}
 use Rattle.lotos_base.specs.Names.{AreOneName}
 use Rattle.lotos_base.specs.Signature.{Sort, Operation, Form}
 use Rattle.lotos_base.specs.Twins.{form_eq}
+use Rattle.lotos_base.proofs.SignatureLemmas.{Decides-form_eq}
+use Rattle.lotos_base.proofs.Tests.{list_any-at}
+use Rattle.lotos_base.proofs.Truth.{true_unless}
 use Rattle.sort_terms.specs.ReadingOutcome.{one_name, is_sort_name}
 use Rattle.sort_terms.specs.WellFormedTest.{are_one_sort, are_one_operation}
 use Rattle.syntax_trees.specs.WrittenItem.{WrittenPair}
@@ -18,30 +22,31 @@ use Rattle.type_definitions.specs.Union.{Mentioned, mention_fault, with_mentione
 use Rattle.type_definitions.specs.Renaming.{pair_for, is_new_name, sort_pair_fault, operation_pair_fault, operation_pairs_fault}
 use Rattle.type_definitions.specs.Actualisation.{Actualising, formal_sorts_of, formal_operations_of, is_formal, is_formal_sort, actualised_sort, actual_name, other_form, is_actual, has_actual, actualised_equations}
 use Rattle.type_definitions.specs.ActualisationFaults.{unshared, actual_pairs_fault, no_actual_sort, formal_sort_fault, formal_operation_fault, Coming, coming_at, made_by_two, sorts_clash, operations_clash, coming_clash, coming_too_many, there_already, coming_sorts, coming_operations, coming_fault, actualising_of, actualising_fault}
-use Rattle.type_flatten.specs.FaultCauses.{FirstAlong, MentionBrings, NamesNoSort, IsOldName, OperationPairBrings, with_pair}
+use Rattle.type_flatten.specs.FaultCauses.{FirstAlong, MentionBrings, NamesNoSort, IsOldName, OperationPairBrings, with_earlier_pair}
 use Rattle.type_flatten.specs.ActualisationCauses.{IsFormalName, SharesNewName, ActualPairBrings, told_missing, FormalSortIsMissing, IsActual, HasNoActual, FormalOperationIsMissing, keeps_all, MadeByTwo, SortsClash, OperationsClash, Clashes, and_then_coming, IsOneTooMany, with_coming, ComingBrings, ActualisingBrings, BaseIsNotFormal}
 use Rattle.type_flatten.specs.ActualisationCauseLaws.{ActualisationsAreFaultyWhereCaused}
-use Rattle.type_flatten.proofs.CauseLemmas.{Tells, Decides, or_else, if_told, along_told, any_from, any_to, not_turned, not_true, names_decided, forms_same, both_true, and_true, operations_decided, less_decided, either_decided, wrong_told, unknown_decided, told_as, old_decided, operation_pair_told, operation_pairs_along}
+use Rattle.type_flatten.proofs.CauseLemmas.{Tells, Decides, or_else, if_told, along_told, names_decided, operations_decided, less_decided, either_decided, wrong_told, unknown_decided, told_as, old_decided, operation_pair_told, operation_pairs_along}
 
 not_decided : (test : Bool) (Means : Type 0) → Decides test Means → Decides (not test) (¬ Means)
 not_decided test Means decides = (
-  λ e is. let never : true ≡ false = sym (decides.1 is) ∙ not_turned test e in cc never,
-  λ none. not_true test (λ e. none (decides.0 e)),
+  λ e is. let never : true ≡ false = sym (decides.1 is) ∙ not-true test e in cc never,
+  λ none. true_unless test (λ e. none (decides.0 e)),
 )
 
 both_decided : (a b : Bool) (A B : Type 0) → Decides a A → Decides b B → Decides (a && b) (A × B)
 both_decided a b A B one other = (
-  λ e. let parts = both_true a b e in (one.0 parts.0, other.0 parts.1),
-  λ is. and_true a b (one.1 is.0) (other.1 is.1),
+  λ e. let parts = and_parts a b e in (one.0 parts.0, other.0 parts.1),
+  λ is. and_from a b (one.1 is.0) (other.1 is.1),
 )
 
 -- ---- Pairs
 
 formal_decided : (base : Presentation) (name : List ℕ) → Decides (is_formal_sort base name) (IsFormalName base name)
 formal_decided base name = (
-  λ e. let found = any_from (λ (s : Sort). one_name s.name name) (formal_sorts_of base) e in
+  λ e. let found = list_any-at (λ (s : Sort). one_name s.name name) (formal_sorts_of base) e in
       (found.0, found.1, found.2, (names_decided found.1.name name).0 found.3),
-  λ is. any_to (λ (s : Sort). one_name s.name name) (formal_sorts_of base) is.0 is.1 is.2 ((names_decided is.1.name name).1 is.3),
+  λ is. any_passes_from_place (λ (s : Sort). one_name s.name name) (formal_sorts_of base)
+      is.0 is.1 is.2 ((names_decided is.1.name name).1 is.3),
 )
 
 module _ (base : Presentation) (pair : WrittenPair) where
@@ -133,7 +138,7 @@ actual_pair_told base earlier pair =
     (shared_decided base pair earlier)))
 
 actual_pairs_along : (base : Presentation) (earlier pairs : List WrittenPair)
-    → actual_pairs_fault base earlier pairs ≡ fault_along (actual_here base) with_pair earlier pairs
+    → actual_pairs_fault base earlier pairs ≡ fault_along (actual_here base) with_earlier_pair earlier pairs
 unfolding actual_here
 actual_pairs_along base earlier [] = refl
 actual_pairs_along base earlier (pair ∷ pairs) =
@@ -173,38 +178,39 @@ actual_decided : (a : Actualising) (formal : Operation) (form : Form) (operation
     → Decides (is_actual a formal form operation) (IsActual a formal form operation)
 actual_decided a formal form operation = (
   λ e.
-      let parts = both_true (one_name operation.name
+      let parts = and_parts (one_name operation.name
       (actual_name formal.name (pair_for a.pairs.operation_pairs formal.name)) && form_eq operation.form form)
       (bytes_eq operation.arguments (map (actualised_sort a) formal.arguments) && nat_eq operation.result
       (actualised_sort a formal.result)) e in
-      let front = both_true (one_name operation.name (actual_name formal.name (pair_for a.pairs.operation_pairs formal.name)))
+      let front = and_parts (one_name operation.name (actual_name formal.name (pair_for a.pairs.operation_pairs formal.name)))
       (form_eq operation.form form) parts.0 in
-      let back = both_true (bytes_eq operation.arguments (map (actualised_sort a) formal.arguments))
+      let back = and_parts (bytes_eq operation.arguments (map (actualised_sort a) formal.arguments))
       (nat_eq operation.result (actualised_sort a formal.result)) parts.1 in
       record {
         named = (names_decided operation.name (actual_name formal.name (pair_for a.pairs.operation_pairs formal.name))).0 front.0;
-        formed = (forms_same operation.form form).0 front.1;
+        formed = (Decides-form_eq operation.form form).0 front.1;
         arguments = same_bytes operation.arguments (map (actualised_sort a) formal.arguments) back.0;
         result = eqb-true operation.result (actualised_sort a formal.result) back.1;
       },
   λ is.
-      and_true _ _
-      (and_true _ _ ((names_decided operation.name (actual_name formal.name (pair_for a.pairs.operation_pairs formal.name))).1 is.named)
-      ((forms_same operation.form form).1 is.formed))
-      (and_true _ _ (bytes_same operation.arguments (map (actualised_sort a) formal.arguments) is.arguments)
+      and_from _ _
+      (and_from _ _ ((names_decided operation.name (actual_name formal.name (pair_for a.pairs.operation_pairs formal.name))).1 is.named)
+      ((Decides-form_eq operation.form form).1 is.formed))
+      (and_from _ _ (bytes_same operation.arguments (map (actualised_sort a) formal.arguments) is.arguments)
       (eq-eqb operation.result (actualised_sort a formal.result) is.result)),
 )
 
 no_actual_from : (a : Actualising) (formal : Operation) (form : Form) → has_actual a formal form ≡ false → HasNoActual a formal form
 no_actual_from a formal form e i operation found is =
     let there : has_actual a formal form ≡ true =
-    any_to (is_actual a formal form) a.actual.signature.operations i operation found ((actual_decided a formal form operation).1 is) in
+    any_passes_from_place (is_actual a formal form) a.actual.signature.operations i operation found
+    ((actual_decided a formal form operation).1 is) in
     let never : true ≡ false = sym there ∙ e in cc never
 
 no_actual_to : (a : Actualising) (formal : Operation) (form : Form) → HasNoActual a formal form → has_actual a formal form ≡ false
 no_actual_to a formal form none =
-    not_turned (has_actual a formal form) (not_true (has_actual a formal form) (λ e.
-    let found = any_from (is_actual a formal form) a.actual.signature.operations e in
+    not-true (has_actual a formal form) (true_unless (has_actual a formal form) (λ e.
+    let found = list_any-at (is_actual a formal form) a.actual.signature.operations e in
     none found.0 found.1 found.2 ((actual_decided a formal form found.1).0 found.3)))
 
 neither : (x y : Bool) → not (x || y) ≡ true → (x ≡ false) × (y ≡ false)
@@ -244,15 +250,15 @@ formal_operations_along a (o ∷ os) =
 places_decided : (one other : Place) → Decides (is_same_place one other) (one ≡ other)
 places_decided one other = (
   λ e.
-      let parts = both_true (nat_eq one.text other.text) (nat_eq one.line other.line && nat_eq one.column other.column) e in
-      let rest = both_true (nat_eq one.line other.line) (nat_eq one.column other.column) parts.1 in
+      let parts = and_parts (nat_eq one.text other.text) (nat_eq one.line other.line && nat_eq one.column other.column) e in
+      let rest = and_parts (nat_eq one.line other.line) (nat_eq one.column other.column) parts.1 in
       let make : ℕ → ℕ → ℕ → Place = λ x y z. record { text = x; line = y; column = z } in
       ap (λ (n : ℕ). make n one.line one.column) (eqb-true one.text other.text parts.0)
       ∙ ap (λ (n : ℕ). make other.text n one.column) (eqb-true one.line other.line rest.0)
       ∙ ap (make other.text other.line) (eqb-true one.column other.column rest.1),
   λ same.
-      and_true _ _ (eq-eqb one.text other.text (ap (λ (p : Place). p.text) same))
-      (and_true _ _ (eq-eqb one.line other.line (ap (λ (p : Place). p.line) same))
+      and_from _ _ (eq-eqb one.text other.text (ap (λ (p : Place). p.text) same))
+      (and_from _ _ (eq-eqb one.line other.line (ap (λ (p : Place). p.line) same))
       (eq-eqb one.column other.column (ap (λ (p : Place). p.column) same))),
 )
 
@@ -283,8 +289,8 @@ module _ {A : Type 0} (a : Actualising) (clash : Coming A → Coming A → Bool)
   clash_told earlier x =
       if_told (list_any (clash x) earlier) (coming_at a kind x)
       ((i : ℕ) × (other : Coming A) × (slice_get earlier i ≡ Some other) × Clash x other) (
-        λ e. let found = any_from (clash x) earlier e in (found.0, found.1, found.2, (decides x found.1).0 found.3),
-        λ is. any_to (clash x) earlier is.0 is.1 is.2 ((decides x is.1).1 is.3),
+        λ e. let found = list_any-at (clash x) earlier e in (found.0, found.1, found.2, (decides x found.1).0 found.3),
+        λ is. any_passes_from_place (clash x) earlier is.0 is.1 is.2 ((decides x is.1).1 is.3),
       )
 
   clashes_along : (earlier xs : List (Coming A)) → coming_clash a clash kind earlier xs ≡ fault_along clash_here and_then_coming earlier xs
@@ -362,7 +368,7 @@ none_formal [] = (λ e. refl, λ e. refl)
 none_formal (x ∷ xs) = (
   λ e.
       let there : nat_lt 0 (suc (length xs)) ≡ true = (less_decided 0 (suc (length xs))).1 (omega arith) in
-      let never : true ≡ false = sym there ∙ not_turned (nat_lt 0 (suc (length xs))) e in absurd (cc never),
+      let never : true ≡ false = sym there ∙ not-true (nat_lt 0 (suc (length xs))) e in absurd (cc never),
   λ e. absurd (cc e),
 )
 
@@ -375,12 +381,13 @@ actualising_told a =
     or_else _ _ _ _
     (told_as (actual_pairs_fault a.base.presentation [] a.pairs.sort_pairs) _ _
     (actual_pairs_along a.base.presentation [] a.pairs.sort_pairs)
-    (along_told (actual_here a.base.presentation) (ActualPairBrings a.base.presentation) with_pair (actual_pair_told a.base.presentation) []
+    (along_told (actual_here a.base.presentation) (ActualPairBrings a.base.presentation) with_earlier_pair
+    (actual_pair_told a.base.presentation) []
     a.pairs.sort_pairs))
     (or_else _ _ _ _
     (told_as (operation_pairs_fault a.base.presentation.signature [] a.pairs.operation_pairs) _ _
     (operation_pairs_along a.base.presentation.signature [] a.pairs.operation_pairs)
-    (along_told (operation_pair_fault a.base.presentation.signature) (OperationPairBrings a.base.presentation.signature) with_pair
+    (along_told (operation_pair_fault a.base.presentation.signature) (OperationPairBrings a.base.presentation.signature) with_earlier_pair
     (operation_pair_told a.base.presentation.signature) [] a.pairs.operation_pairs))
     (or_else _ _ _ _
     (told_as (formal_sort_fault a (formal_sorts_of a.base.presentation)) _ _ (formal_sorts_along a (formal_sorts_of a.base.presentation))

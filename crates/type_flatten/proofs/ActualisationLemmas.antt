@@ -6,8 +6,8 @@ use Rattle.type_actualisation.proofs.MapLemmas.{image_there}
 use Rattle.lotos_base.specs.Signature.{Sort, Operation}
 use Rattle.lotos_base.specs.Equation.{Equation}
 use Rattle.type_definitions.specs.Images.{equation_image}
-use Rattle.type_definitions.specs.Presentation.{is_same_equation, is_marked, first_position}
-use Rattle.type_definitions.specs.Union.{sort_in, operation_in}
+use Rattle.type_definitions.specs.Presentation.{is_same_equation, is_marked_number, first_position}
+use Rattle.type_definitions.specs.Union.{sort_place_in, operation_place_in}
 use Rattle.type_definitions.specs.UnionLaws.{IsIn}
 use Rattle.type_definitions.proofs.WithNewLemmas.{first_appearances}
 use Rattle.type_definitions.specs.Actualisation.{Actualising, actualised_sorts, actualised_operations, actualised_equations, actualised_sort, actualised_operation, actual_sort, actual_operation, sort_becomes, operation_becomes, other_sort_image, other_operation_image, other_sorts_of, other_operations_of, unmarked_from}
@@ -15,15 +15,15 @@ use Rattle.type_flatten.specs.PartsOfActualisations.{ActualisationsContain}
 
 -- a member that is not marked is among the others
 is_other : {A : Type 0} (marks : List ℕ) (number : ℕ) (xs : List A) (i n : ℕ) (x : A) → slice_get xs i ≡ Some x → n ≡ number + i
-    → is_marked marks n ≡ false → IsIn (unmarked_from marks number xs) x
+    → is_marked_number marks n ≡ false → IsIn (unmarked_from marks number xs) x
 is_other marks number [] i n x found at plain = absurd (none-some x found)
 is_other marks number (z ∷ xs) zero n x found at plain =
     let here : n ≡ number = omega (arith, at) in
-    let is : is_marked marks number ≡ false = ap (λ (k : ℕ). is_marked marks k) (sym here) ∙ plain in
+    let is : is_marked_number marks number ≡ false = ap (λ (k : ℕ). is_marked_number marks k) (sym here) ∙ plain in
     subst (λ (b : Bool). IsIn (if b then unmarked_from marks (suc number) xs else z ∷ unmarked_from marks (suc number) xs) x) (sym is)
     (0, found)
 is_other {A = A} marks number (z ∷ xs) (suc i) n x found at plain =
-    go (is_marked marks number) (is_other marks (suc number) xs i n x found (omega (arith, at)) plain)
+    go (is_marked_number marks number) (is_other marks (suc number) xs i n x found (omega (arith, at)) plain)
   where
     go : (b : Bool) → IsIn (unmarked_from marks (suc number) xs) x
         → IsIn (if b then unmarked_from marks (suc number) xs else z ∷ unmarked_from marks (suc number) xs) x
@@ -36,20 +36,20 @@ unmarked false one other h = refl
 
 -- the new number of a sort that is not formal
 sort_number : (a : Actualising) (i : ℕ) (s : Sort) → slice_get a.base.presentation.signature.sorts i ≡ Some s
-    → is_marked a.base.presentation.formal_sorts i ≡ false
-    → actualised_sort a i ≡ sort_in (actualised_sorts a) (Some (other_sort_image a s))
+    → is_marked_number a.base.presentation.formal_sorts i ≡ false
+    → actualised_sort a i ≡ sort_place_in (actualised_sorts a) (Some (other_sort_image a s))
 sort_number a i s found plain =
     ap (λ (o : Option Sort). sort_becomes a i o) found
-    ∙ unmarked (is_marked a.base.presentation.formal_sorts i) (actual_sort a s)
-    (sort_in (actualised_sorts a) (Some (other_sort_image a s))) plain
+    ∙ unmarked (is_marked_number a.base.presentation.formal_sorts i) (actual_sort a s)
+    (sort_place_in (actualised_sorts a) (Some (other_sort_image a s))) plain
 
 operation_number : (a : Actualising) (i : ℕ) (o : Operation) → slice_get a.base.presentation.signature.operations i ≡ Some o
-    → is_marked a.base.presentation.formal_operations i ≡ false
-    → actualised_operation a i ≡ operation_in (actualised_operations a) (Some (other_operation_image a o))
+    → is_marked_number a.base.presentation.formal_operations i ≡ false
+    → actualised_operation a i ≡ operation_place_in (actualised_operations a) (Some (other_operation_image a o))
 operation_number a i o found plain =
     ap (λ (x : Option Operation). operation_becomes a i x) found
-    ∙ unmarked (is_marked a.base.presentation.formal_operations i) (actual_operation a o)
-    (operation_in (actualised_operations a) (Some (other_operation_image a o))) plain
+    ∙ unmarked (is_marked_number a.base.presentation.formal_operations i) (actual_operation a o)
+    (operation_place_in (actualised_operations a) (Some (other_operation_image a o))) plain
 
 pub actualisations : ActualisationsContain
 actualisations = record {

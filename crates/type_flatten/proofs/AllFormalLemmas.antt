@@ -4,41 +4,23 @@ use Rattle.std.specs.Prelude.{None, Some, slice_get, if◌then◌else◌}
 use Rattle.std.proofs.lemmas.List.{map-append}
 use Rattle.std.proofs.lemmas.List.Sums.{fold-append}
 use Rattle.lotos_base.proofs.Members.{at_map}
-use Rattle.lotos_base.specs.Equation.{Equation}
-use Rattle.lotos_base.specs.WrittenTerm.{PlacedName}
 use Rattle.sort_terms.specs.EquationView.{equation_of}
 use Rattle.sort_terms.specs.declared.equations.Equation.{Equation as CodeEquation}
-use Rattle.syntax_trees.specs.WrittenItem.{WrittenPairs, actualises}
-use Rattle.type_definitions.specs.Actualisation.{actualisation, is_formal}
+use Rattle.type_definitions.specs.Actualisation.{is_formal}
 use Rattle.type_definitions.specs.DeclaredTypes.{DeclaredType}
-use Rattle.type_definitions.specs.Flattened.{ArePresented, IsPresentation, all_presented, data_of, next_presented, types_at, without_formals}
-use Rattle.type_definitions.specs.FormalEquations.{FlattenedType, WithFormals, formals_named, mentioned_in, no_formals}
+use Rattle.type_definitions.specs.Flattened.{ArePresented, all_presented, flattened_data_of, next_presented, types_at, without_formals}
+use Rattle.type_definitions.specs.FormalEquations.{FlattenedType, WithFormals, mentioned_in, no_formals}
 use Rattle.type_definitions.specs.MentionFaults.{AreInOrder}
 use Rattle.type_definitions.specs.Presentation.{Presentation, nothing}
-use Rattle.type_definitions.specs.Requirements.{HaveFormals, actualised_images, all_have_formals, flattened_with, informal_types, next_has_formals, required_of, with_required}
+use Rattle.type_definitions.specs.Requirements.{HaveFormals, all_have_formals, flattened_with, informal_types, next_has_formals, with_required}
 use Rattle.type_definitions.specs.Union.{Mentioned, union_fault, union_of, with_mentioned}
 use Rattle.type_presentations.specs.EquationListView.{equations_in}
-use Rattle.type_presentations.specs.declared.equation_list.EquationList.{EquationList}
 use Rattle.type_unions.specs.PresentedView.{presented_in}
-use Rattle.type_flatten.specs.FormalLists.{AreFormalsOver, IsUnionWith}
-use Rattle.type_flatten.specs.FormalTypesView.{AreFlattenedBehind, AreFormalTypes, AreRequiredInOrder, HasOver, IsFlattenedNext, actualising_in, required_union}
+use Rattle.type_actualisation.specs.FormalLists.{AreFormalsOver, IsUnionWith}
+use Rattle.type_actualisation.specs.FormalTypesView.{AreFlattenedBehind, AreFormalTypes, AreRequiredInOrder, IsFlattenedNext, required_union}
 use Rattle.type_flatten.specs.RequiredView.{AreRequired}
-use Rattle.type_flatten.specs.declared.formal_lists.FormalUnion.{FormalUnion}
-use Rattle.type_flatten.specs.declared.formal_types.FormalTypes.{FormalTypes}
-
--- ---- What one type requires.
-
-pub actual_required : (all : List FlattenedType) (name : List ℕ) (p : Presentation) (base : PlacedName) (actuals : List PlacedName)
-    (pairs : WrittenPairs) (list : EquationList)
-    → is_formal p ≡ false → IsPresentation (mentioned_in all) name (actualises base actuals pairs) p
-    → HasOver (actualised_images (actualising_in all base actuals name pairs) (formals_named all base.name))
-    (actualisation (actualising_in all base actuals name pairs)) list
-    → HasOver (required_of all name p (actualises base actuals pairs)) p list
-actual_required all name p base actuals pairs list informal is has =
-    let images : List Equation = actualised_images (actualising_in all base actuals name pairs) (formals_named all base.name) in (
-      has.0 ∙ sym (ap (λ (b : Bool). if b then [] else images) informal),
-      subst (λ (q : Presentation). AreFormalsOver q.signature list) is.1 has.1,
-    )
+use Rattle.type_actualisation.specs.declared.formal_lists.FormalUnion.{FormalUnion}
+use Rattle.type_actualisation.specs.declared.formal_types.FormalTypes.{FormalTypes}
 
 -- ---- The types in which nothing is formal.
 
@@ -158,7 +140,7 @@ required_of_types types texts order items in_order these r = record {
     united = r.united;
     are = r.are;
   };
-  data_ = data_of (union_of (without_formals (mentioned_in r.all)));
+  data_ = flattened_data_of (union_of (without_formals (mentioned_in r.all)));
   flattened = record {
     order = order;
     ordered = in_order.ordered;

@@ -9,7 +9,7 @@ use Rattle.type_definitions.specs.declared.name_faults.TypeNameFault.TheVariants
 use Rattle.type_definitions.specs.TypeFault.{TypeFault as PlainTypeFault}
 use Rattle.type_definitions.specs.Presentation.{Presentation}
 use Rattle.type_definitions.specs.Union.{Mentioned, union_of, union_fault}
-use Rattle.type_definitions.specs.Flattened.{IsPresentation, IsFaultOfType, ArePresented, all_presented, next_presented, HasFaultyType, faulty_now, faulty_later, declared_with, types_at, without_formals, data_of, IsFlatteningFault}
+use Rattle.type_definitions.specs.Flattened.{IsPresentation, IsFaultOfType, ArePresented, all_presented, next_presented, HasFaultyType, faulty_now, faulty_later, declared_with, types_at, without_formals, flattened_data_of, IsFlatteningFault}
 use Rattle.type_definitions.specs.FaultView.{HoldsOfFault, IsFaultFound, fault_of_names}
 use Rattle.type_definitions.specs.declared.type_faults.TypeFault.{TypeFault}
 use Rattle.type_definitions.specs.declared.type_faults.TypeFault.TheVariants.{DoubleType, UnknownType, TypeCycle, DoubleSort, UnknownSort, DoubleOperation, UnknownOperation, NotFormal, MissingActual, TooLarge, Premised, Term, NoMemory}
@@ -94,7 +94,7 @@ pub union_is_united : (all ms : List Mentioned) (union : CodePresentation) (flat
     → IsUnited ms union → AreDataOf (presentation_of union) flat → AreUnited all flat
 union_is_united all ms union flat informal united data_ = record {
   none = ap union_fault (sym informal) ∙ united.none;
-  same = data_.same ∙ ap data_of (united.made ∙ ap union_of informal);
+  same = data_.same ∙ ap flattened_data_of (united.made ∙ ap union_of informal);
   well_formed = data_.well_formed;
   sides = data_.sides;
 }

@@ -1,6 +1,6 @@
 -- Faults of what is asked of equations, one question after the other.
 use Rattle.std.proofs.Common.{◌≡◌, inl, inr, ℕ, Bool, true, false, List, [], ◌∷◌, ◌++◌, length, None, Some, refl, ap, sym, ◌∙◌, subst}
-use Rattle.std.proofs.lemmas.Bool.{both_ways}
+use Rattle.std.proofs.lemmas.Bool.{both_ways, not-true, not_from_false}
 use Rattle.lotos_base.proofs.Options.{none_unless_some, none_and_some}
 use Rattle.lotos_base.specs.Equation.{Equation}
 use Rattle.sort_terms.specs.ReadingOutcome.{is_sort_name}
@@ -12,8 +12,8 @@ use Rattle.type_flatten.specs.FirstCause.{IsNowhere, FirstAlong, at_once, furthe
 use Rattle.type_flatten.specs.FaultCauses.{Cause}
 use Rattle.type_flatten.specs.EquationCauses.{PremissOf, HasPremisses, OneEquationTooMany, AskedBrings, counted_on}
 use Rattle.type_flatten.specs.EquationCauseLaws.{EquationsAreFaultyWhereCaused}
-use Rattle.type_flatten.proofs.CauseLemmas.{unknown_decided, not_turned}
-use Rattle.type_flatten.proofs.EquationLemmas.{not_false, holding, premisses_told, told_premisses, premisses_read, no_premisses_fault, long, too_much, sides_told, later_told, SidesOrLater, told_sides, sides_none, none_sides}
+use Rattle.type_flatten.proofs.CauseLemmas.{unknown_decided}
+use Rattle.type_flatten.proofs.EquationLemmas.{holding, premisses_told, told_premisses, premisses_read, no_premisses_fault, long, too_much, sides_told, later_told, SidesOrLater, told_sides, sides_none, none_sides}
 
 module _ (type_name : List ℕ) (p : Presentation) where
   abbrev Brings : ℕ → EquationQuestion → Cause
@@ -30,7 +30,7 @@ module _ (type_name : List ℕ) (p : Presentation) where
 
     asked_told : (a : EquationQuestion) (fault : TypeFault) → QuestionHasFault (holding p es) type_name a fault → Brings (length es) a fault
     asked_told _ _ (sort_is_unknown place name not_there) =
-        (refl, (unknown_decided p.signature name).0 (not_false (is_sort_name p.signature name) not_there))
+        (refl, (unknown_decided p.signature name).0 (not_from_false (is_sort_name p.signature name) not_there))
     asked_told _ _ (formal_side asked fault is) =
         sides_told p es asked (FirstAlong (PremissOf p) stays asked asked.equation.premisses) fault is
     asked_told _ _ (formal_premiss asked left right fault is also first) =
@@ -50,7 +50,7 @@ module _ (type_name : List ℕ) (p : Presentation) where
     told_asked (sort_asked place name) fault is =
         subst (QuestionHasFault (holding p es) type_name (sort_asked place name)) (sym is.0)
         (sort_is_unknown place name
-        (not_turned (is_sort_name p.signature name) ((unknown_decided p.signature name).1 is.1)))
+        (not-true (is_sort_name p.signature name) ((unknown_decided p.signature name).1 is.1)))
     told_asked (formal_asked asked) fault is =
         by (told_sides p es asked (FirstAlong (PremissOf p) stays asked asked.equation.premisses) fault is)
       where
@@ -85,7 +85,7 @@ module _ (type_name : List ℕ) (p : Presentation) where
       many = refl;
       none = λ fault is.
           both_ways (is_sort_name p.signature name)
-          (not_turned (is_sort_name p.signature name) ((unknown_decided p.signature name).1 is.1)) there;
+          (not-true (is_sort_name p.signature name) ((unknown_decided p.signature name).1 is.1)) there;
     }
     gives _ _ (formal_is_read asked left right is also are) = record {
       equations = es;
@@ -120,7 +120,7 @@ module _ (type_name : List ℕ) (p : Presentation) where
         by true e = refl
         by false e =
             absurd (none (unknown_sort place (Some name))
-            (refl, (unknown_decided p.signature name).0 (not_false (is_sort_name p.signature name) e)))
+            (refl, (unknown_decided p.signature name).0 (not_from_false (is_sort_name p.signature name) e)))
     given (formal_asked asked) none =
         let sides = none_sides p es asked (FirstAlong (PremissOf p) stays asked asked.equation.premisses) none in
         (es, formal_is_read asked sides.0 sides.1 sides.2 sides.3 (premisses_read p es asked asked.equation.premisses sides.4), refl)

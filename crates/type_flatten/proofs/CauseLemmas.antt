@@ -2,14 +2,18 @@
 use Rattle.std.proofs.Common.{◌≡◌, ◌≢◌, ◌↔◌, ◌⊎◌, inl, inr, ◌<◌, ℕ, zero, suc, Bool, true, false, ◌&&◌, ◌||◌, not, nat_eq, nat_lt, List, [], ◌∷◌, ◌++◌, length, slice_get, Option, None, Some, refl, ap, sym, ◌∙◌, subst, arith, eqb-true}
 use Rattle.std.specs.List.{list_any}
 use Rattle.std.specs.Str.{bytes_eq}
-use Rattle.std.proofs.lemmas.Bool.{eq-eqb, ltb-true}
+use Rattle.std.proofs.lemmas.Bool.{eq-eqb, ltb-true, and_from, not-true, and_parts}
 use Rattle.std.proofs.lemmas.Option.{same_Some}
+use Rattle.std.proofs.lemmas.Map.Keys.{any_passes_from_place}
 use Rattle.lotos_base.proofs.Bytes.{same_bytes, bytes_same}
 use Rattle.lotos_base.specs.Equation.{Place}
 use Rattle.lotos_base.specs.Names.{AreOneName, folded}
 use Rattle.lotos_base.specs.Signature.{Signature, Sort, Operation, Form, prefix_form, infix_form}
 use Rattle.lotos_base.specs.Twins.{form_eq}
 use Rattle.lotos_base.specs.WrittenTerm.{PlacedName}
+use Rattle.lotos_base.proofs.SignatureLemmas.{Decides-form_eq}
+use Rattle.lotos_base.proofs.Tests.{list_any-at}
+use Rattle.lotos_base.proofs.Truth.{true_unless}
 use Rattle.sort_terms.specs.ReadingOutcome.{one_name, is_sort_name}
 use Rattle.sort_terms.specs.WellFormedTest.{all_differ, are_one_sort, are_one_operation}
 use Rattle.syntax_trees.specs.WrittenItem.{WrittenOperation, WrittenPair}
@@ -18,7 +22,7 @@ use Rattle.type_definitions.specs.Presentation.{Presentation, nothing, presentat
 use Rattle.type_definitions.specs.Union.{presentation_fault, with_mentioned, mention_fault}
 use Rattle.type_definitions.specs.Declarations.{with_sort, sort_fault, with_operation, fits_form, unknown_sort_among, operation_fault, with_formal_sorts, with_sorts, with_formal_operations}
 use Rattle.type_definitions.specs.Renaming.{is_old_name, is_new_name, names_operation, sort_pair_fault, operation_pair_fault, sort_pairs_fault, operation_pairs_fault}
-use Rattle.type_flatten.specs.FaultCauses.{Cause, IsNowhere, OrElse, FirstAlong, at_once, further_on, HasTwoAlike, AreOneSort, AreOneOperation, IsAboveLimit, TwoSorts, TwoOperations, TooMuch, IsWrongWith, MentionBrings, SortBrings, NamesNoSort, Misfits, SortIsUnknown, stays_so, ProfileIsUnknown, OperationBrings, IsOldName, IsNewName, NamesNoOperation, SortPairBrings, OperationPairBrings, with_pair}
+use Rattle.type_flatten.specs.FaultCauses.{Cause, IsNowhere, OrElse, FirstAlong, at_once, further_on, HasTwoAlike, AreOneSort, AreAlikeOperations, IsAboveLimit, TwoSorts, TwoOperations, TooMuch, IsWrongWith, MentionBrings, SortBrings, NamesNoSort, Misfits, SortIsUnknown, stays_so, ProfileIsUnknown, OperationBrings, IsOldName, IsNewName, NamesNoOperation, SortPairBrings, OperationPairBrings, with_earlier_pair}
 use Rattle.type_flatten.specs.FaultCauseLaws.{UnionsAreFaultyWhereCaused, DeclarationsAreFaultyWhereCaused, PairsAreFaultyWhereCaused}
 
 -- ---- Faults and causes in general
@@ -86,38 +90,6 @@ module _ {S D : Type 0} (fault_of : S → D → Option TypeFault) (Is : S → D 
   pub along_told : (state : S) (ds : List D) → Tells (fault_along fault_of after state ds) (FirstAlong Is after state ds)
   along_told state ds fault = (along_from state ds fault, along_to state ds fault)
 
--- ---- Tests of lists
-
-pub any_from : {A : Type 0} (test : A → Bool) (xs : List A) → list_any test xs ≡ true
-    → (i : ℕ) × (x : A) × (slice_get xs i ≡ Some x) × (test x ≡ true)
-any_from test [] e = absurd (cc e)
-any_from {A} test (x ∷ xs) e = by (test x) refl e (λ h. any_from test xs h)
-  where
-    by : (here : Bool) → test x ≡ here → (here || list_any test xs) ≡ true
-        → (list_any test xs ≡ true → (i : ℕ) × (y : A) × (slice_get xs i ≡ Some y) × (test y ≡ true))
-        → (i : ℕ) × (y : A) × (slice_get (x ∷ xs) i ≡ Some y) × (test y ≡ true)
-    by true is e later = (0, x, refl, is)
-    by false is e later = let found = later e in (suc found.0, found.1, found.2, found.3)
-
-pub any_to : {A : Type 0} (test : A → Bool) (xs : List A) (i : ℕ) (x : A) → slice_get xs i ≡ Some x → test x ≡ true
-    → list_any test xs ≡ true
-any_to test [] i x found is = absurd (cc found)
-any_to test (y ∷ ys) zero x found is =
-    ap (λ (here : Bool). here || list_any test ys) (ap test (same_Some y x found) ∙ is)
-any_to test (y ∷ ys) (suc i) x found is = by (test y) (any_to test ys i x found is)
-  where
-    by : (here : Bool) → list_any test ys ≡ true → (here || list_any test ys) ≡ true
-    by true e = refl
-    by false e = e
-
-pub not_turned : (test : Bool) → not test ≡ true → test ≡ false
-not_turned true e = absurd (cc e)
-not_turned false e = refl
-
-pub not_true : (test : Bool) → (test ≡ true → ⊥) → not test ≡ true
-not_true true no_one = absurd (no_one refl)
-not_true false no_one = refl
-
 -- ---- Two of one kind
 
 module _ {A : Type 0} (same : A → A → Bool) (AreOne : A → A → Type 0) (decides : (x y : A) → Decides (same x y) (AreOne x y)) where
@@ -128,7 +100,7 @@ module _ {A : Type 0} (same : A → A → Bool) (AreOne : A → A → Type 0) (d
       by : (there : Bool) → list_any (same x) xs ≡ there → not (not there && all_differ same xs) ≡ true
           → (not (all_differ same xs) ≡ true → HasTwoAlike AreOne xs) → HasTwoAlike AreOne (x ∷ xs)
       by true is e later =
-          let found = any_from (same x) xs is in
+          let found = list_any-at (same x) xs is in
           record {
             i = 0;
             j = suc found.0;
@@ -158,7 +130,7 @@ module _ {A : Type 0} (same : A → A → Bool) (AreOne : A → A → Type 0) (d
   two_at (z ∷ zs) zero zero x y less here there is = absurd (omega (arith, less))
   two_at (z ∷ zs) zero (suc j) x y less here there is =
       by (list_any (same z) zs)
-      (any_to (same z) zs j y there ((decides z y).1 (subst (λ (w : A). AreOne w y) (sym (same_Some z x here)) is)))
+      (any_passes_from_place (same z) zs j y there ((decides z y).1 (subst (λ (w : A). AreOne w y) (sym (same_Some z x here)) is)))
     where
       by : (found : Bool) → found ≡ true → not (not found && all_differ same zs) ≡ true
       by true e = refl
@@ -177,38 +149,25 @@ module _ {A : Type 0} (same : A → A → Bool) (AreOne : A → A → Type 0) (d
 pub names_decided : (one other : List ℕ) → Decides (one_name one other) (AreOneName one other)
 names_decided one other = (same_bytes (folded one) (folded other), bytes_same (folded one) (folded other))
 
-pub forms_same : (one other : Form) → Decides (form_eq one other) (one ≡ other)
-forms_same prefix_form prefix_form = (λ e. refl, λ e. refl)
-forms_same prefix_form infix_form = (λ e. absurd (cc e), λ e. absurd (cc e))
-forms_same infix_form prefix_form = (λ e. absurd (cc e), λ e. absurd (cc e))
-forms_same infix_form infix_form = (λ e. refl, λ e. refl)
-
-pub both_true : (a b : Bool) → (a && b) ≡ true → (a ≡ true) × (b ≡ true)
-both_true true b e = (refl, e)
-both_true false b e = absurd (cc e)
-
-pub and_true : (a b : Bool) → a ≡ true → b ≡ true → (a && b) ≡ true
-and_true a b e d = ap (λ (c : Bool). c && b) e ∙ d
-
-pub operations_decided : (one other : Operation) → Decides (are_one_operation one other) (AreOneOperation one other)
+pub operations_decided : (one other : Operation) → Decides (are_one_operation one other) (AreAlikeOperations one other)
 operations_decided one other = (
   λ e.
-      let parts = both_true (one_name one.name other.name && form_eq one.form other.form)
+      let parts = and_parts (one_name one.name other.name && form_eq one.form other.form)
       (bytes_eq one.arguments other.arguments && nat_eq one.result other.result) e in
-      let front = both_true (one_name one.name other.name) (form_eq one.form other.form) parts.0 in
-      let back = both_true (bytes_eq one.arguments other.arguments) (nat_eq one.result other.result) parts.1 in
+      let front = and_parts (one_name one.name other.name) (form_eq one.form other.form) parts.0 in
+      let back = and_parts (bytes_eq one.arguments other.arguments) (nat_eq one.result other.result) parts.1 in
       record {
         named = (names_decided one.name other.name).0 front.0;
-        formed = (forms_same one.form other.form).0 front.1;
+        formed = (Decides-form_eq one.form other.form).0 front.1;
         arguments = same_bytes one.arguments other.arguments back.0;
         result = eqb-true one.result other.result back.1;
       },
   λ is.
-      and_true (one_name one.name other.name && form_eq one.form other.form)
+      and_from (one_name one.name other.name && form_eq one.form other.form)
       (bytes_eq one.arguments other.arguments && nat_eq one.result other.result)
-      (and_true (one_name one.name other.name) (form_eq one.form other.form) ((names_decided one.name other.name).1 is.named)
-      ((forms_same one.form other.form).1 is.formed))
-      (and_true (bytes_eq one.arguments other.arguments) (nat_eq one.result other.result)
+      (and_from (one_name one.name other.name) (form_eq one.form other.form) ((names_decided one.name other.name).1 is.named)
+      ((Decides-form_eq one.form other.form).1 is.formed))
+      (and_from (bytes_eq one.arguments other.arguments) (nat_eq one.result other.result)
       (bytes_same one.arguments other.arguments is.arguments)
       (eq-eqb one.result other.result is.result)),
 )
@@ -244,8 +203,8 @@ wrong_told place name p =
     (if_told (has_sort_clash p) (double_sort place name) (HasTwoAlike AreOneSort p.signature.sorts)
     (two_decided are_one_sort AreOneSort (λ s t. names_decided s.name t.name) p.signature.sorts))
     (or_else (fault_if (has_operation_clash p) (double_operation place name)) _ (TwoOperations place name p) (TooMuch place name p)
-    (if_told (has_operation_clash p) (double_operation place name) (HasTwoAlike AreOneOperation p.signature.operations)
-    (two_decided are_one_operation AreOneOperation operations_decided p.signature.operations))
+    (if_told (has_operation_clash p) (double_operation place name) (HasTwoAlike AreAlikeOperations p.signature.operations)
+    (two_decided are_one_operation AreAlikeOperations operations_decided p.signature.operations))
     (if_told (is_too_large p) (too_large place name) (IsAboveLimit presentation_limit p) (exceeds_decided presentation_limit p)))
 
 pub unions_faulty : UnionsAreFaultyWhereCaused
@@ -266,10 +225,10 @@ pub unknown_decided : (signature : Signature) (name : List ℕ) → Decides (not
 unknown_decided signature name = (
   λ e i sort found same.
       let there : is_sort_name signature name ≡ true =
-      any_to (λ (s : Sort). one_name s.name name) signature.sorts i sort found ((names_decided sort.name name).1 same) in
-      let never : true ≡ false = sym there ∙ not_turned (is_sort_name signature name) e in cc never,
-  λ no_one. not_true (is_sort_name signature name) (λ e.
-      let found = any_from (λ (s : Sort). one_name s.name name) signature.sorts e in
+      any_passes_from_place (λ (s : Sort). one_name s.name name) signature.sorts i sort found ((names_decided sort.name name).1 same) in
+      let never : true ≡ false = sym there ∙ not-true (is_sort_name signature name) e in cc never,
+  λ no_one. true_unless (is_sort_name signature name) (λ e.
+      let found = list_any-at (λ (s : Sort). one_name s.name name) signature.sorts e in
       no_one found.0 found.1 found.2 ((names_decided found.1.name name).0 found.3)),
 )
 
@@ -300,9 +259,9 @@ misfit_decided infix_form count = (
   λ e. (
     refl,
     λ same. let there : nat_eq count 2 ≡ true = eq-eqb count 2 same in
-        let never : true ≡ false = sym there ∙ not_turned (nat_eq count 2) e in cc never,
+        let never : true ≡ false = sym there ∙ not-true (nat_eq count 2) e in cc never,
   ),
-  λ is. not_true (nat_eq count 2) (λ e. is.1 (eqb-true count 2 e)),
+  λ is. true_unless (nat_eq count 2) (λ e. is.1 (eqb-true count 2 e)),
 )
 
 operation_told : (origin : List ℕ) (is_formal : Bool) (p : Presentation) (declared : WrittenOperation)
@@ -334,17 +293,18 @@ declarations_faulty origin p sections =
 
 pub old_decided : (pairs : List WrittenPair) (name : List ℕ) → Decides (is_old_name pairs name) (IsOldName pairs name)
 old_decided pairs name = (
-  λ e. let found = any_from (λ (pair : WrittenPair). one_name pair.replaced.name name) pairs e in
+  λ e. let found = list_any-at (λ (pair : WrittenPair). one_name pair.replaced.name name) pairs e in
       (found.0, found.1, found.2, (names_decided found.1.replaced.name name).0 found.3),
-  λ is. any_to (λ (pair : WrittenPair). one_name pair.replaced.name name) pairs is.0 is.1 is.2
+  λ is. any_passes_from_place (λ (pair : WrittenPair). one_name pair.replaced.name name) pairs is.0 is.1 is.2
       ((names_decided is.1.replaced.name name).1 is.3),
 )
 
 pub new_decided : (pairs : List WrittenPair) (name : List ℕ) → Decides (is_new_name pairs name) (IsNewName pairs name)
 new_decided pairs name = (
-  λ e. let found = any_from (λ (pair : WrittenPair). one_name pair.given name) pairs e in
+  λ e. let found = list_any-at (λ (pair : WrittenPair). one_name pair.given name) pairs e in
       (found.0, found.1, found.2, (names_decided found.1.given name).0 found.3),
-  λ is. any_to (λ (pair : WrittenPair). one_name pair.given name) pairs is.0 is.1 is.2 ((names_decided is.1.given name).1 is.3),
+  λ is. any_passes_from_place (λ (pair : WrittenPair). one_name pair.given name) pairs
+      is.0 is.1 is.2 ((names_decided is.1.given name).1 is.3),
 )
 
 no_operation_decided : (signature : Signature) (name : List ℕ) → Decides (not (names_operation signature name))
@@ -352,11 +312,11 @@ no_operation_decided : (signature : Signature) (name : List ℕ) → Decides (no
 no_operation_decided signature name = (
   λ e i operation found same.
       let there : names_operation signature name ≡ true =
-      any_to (λ (o : Operation). one_name o.name name) signature.operations i operation found
+      any_passes_from_place (λ (o : Operation). one_name o.name name) signature.operations i operation found
       ((names_decided operation.name name).1 same) in
-      let never : true ≡ false = sym there ∙ not_turned (names_operation signature name) e in cc never,
-  λ no_one. not_true (names_operation signature name) (λ e.
-      let found = any_from (λ (o : Operation). one_name o.name name) signature.operations e in
+      let never : true ≡ false = sym there ∙ not-true (names_operation signature name) e in cc never,
+  λ no_one. true_unless (names_operation signature name) (λ e.
+      let found = list_any-at (λ (o : Operation). one_name o.name name) signature.operations e in
       no_one found.0 found.1 found.2 ((names_decided found.1.name name).0 found.3)),
 )
 
@@ -386,13 +346,13 @@ module _ (signature : Signature) where
       (old_decided earlier pair.replaced.name))
 
   sort_pairs_along : (earlier pairs : List WrittenPair)
-      → sort_pairs_fault signature earlier pairs ≡ fault_along sort_here with_pair earlier pairs
+      → sort_pairs_fault signature earlier pairs ≡ fault_along sort_here with_earlier_pair earlier pairs
   sort_pairs_along earlier [] = refl
   sort_pairs_along earlier (pair ∷ pairs) =
       ap (first_fault (sort_pair_fault signature earlier earlier pair)) (sort_pairs_along (earlier ++ pair ∷ []) pairs)
 
   pub operation_pairs_along : (earlier pairs : List WrittenPair)
-      → operation_pairs_fault signature earlier pairs ≡ fault_along (operation_pair_fault signature) with_pair earlier pairs
+      → operation_pairs_fault signature earlier pairs ≡ fault_along (operation_pair_fault signature) with_earlier_pair earlier pairs
   operation_pairs_along earlier [] = refl
   operation_pairs_along earlier (pair ∷ pairs) =
       ap (first_fault (operation_pair_fault signature earlier pair)) (operation_pairs_along (earlier ++ pair ∷ []) pairs)
@@ -400,11 +360,12 @@ module _ (signature : Signature) where
 pub pairs_faulty : PairsAreFaultyWhereCaused
 pairs_faulty = record {
   sorts = λ signature pairs.
-      told_as (sort_pairs_fault signature [] pairs) _ (FirstAlong (SortPairBrings signature) with_pair [] pairs)
+      told_as (sort_pairs_fault signature [] pairs) _ (FirstAlong (SortPairBrings signature) with_earlier_pair [] pairs)
       (sort_pairs_along signature [] pairs)
-      (along_told (sort_here signature) (SortPairBrings signature) with_pair (sort_pair_told signature) [] pairs);
+      (along_told (sort_here signature) (SortPairBrings signature) with_earlier_pair (sort_pair_told signature) [] pairs);
   operations = λ signature pairs.
-      told_as (operation_pairs_fault signature [] pairs) _ (FirstAlong (OperationPairBrings signature) with_pair [] pairs)
+      told_as (operation_pairs_fault signature [] pairs) _ (FirstAlong (OperationPairBrings signature) with_earlier_pair [] pairs)
       (operation_pairs_along signature [] pairs)
-      (along_told (operation_pair_fault signature) (OperationPairBrings signature) with_pair (operation_pair_told signature) [] pairs);
+      (along_told (operation_pair_fault signature) (OperationPairBrings signature) with_earlier_pair
+      (operation_pair_told signature) [] pairs);
 }

@@ -10,11 +10,11 @@ use Rattle.lotos_base.specs.Tests.{term_eq}
 use Rattle.lotos_base.specs.Twins.{form_eq}
 use Rattle.syntax_trees.specs.WrittenItem.{WrittenPair, WrittenPairs}
 use Rattle.type_definitions.specs.TypeFault.{TypeFault, double_operation}
-use Rattle.type_definitions.specs.Presentation.{is_marked, is_same_place, is_same_equation, first_position}
+use Rattle.type_definitions.specs.Presentation.{is_marked_number, is_same_place, is_same_equation, first_position}
 use Rattle.type_definitions.specs.Images.{operation_image}
-use Rattle.type_definitions.specs.Union.{Mentioned, operation_in}
+use Rattle.type_definitions.specs.Union.{Mentioned, operation_place_in}
 use Rattle.type_definitions.specs.Renaming.{pair_for, operation_under}
-use Rattle.type_definitions.specs.Actualisation.{Actualising, formal_operations_of, unless, operation_renamer, actual_sort, actualised_sort, sort_becomes, actualised_operation, operation_becomes, actualised_operations, actualised_equations, other_operation_image}
+use Rattle.type_definitions.specs.Actualisation.{Actualising, formal_operations_of, pair_unless, operation_renamer, actual_sort, actualised_sort, sort_becomes, actualised_operation, operation_becomes, actualised_operations, actualised_equations, other_operation_image}
 use Rattle.type_definitions.specs.ActualisationFaults.{at_pair, coming_operations, there_already, actualising_of, actualisation_fault}
 use Rattle.type_flatten.specs.FirstCause.{IsNowhere, OrElse, FirstAlong, at_once, further_on}
 use Rattle.type_flatten.specs.FaultCauses.{Cause}
@@ -35,7 +35,7 @@ renamer_same : (a : Actualising) (one other : Operation) → AreOneName one.name
 renamer_same a one other same =
     let pairs = pair_same a.pairs.operation_pairs one.name other.name same in
     (λ i.
-    unless (list_any (λ (o : Operation). bytes_eq (folded o.name) (same i)) (formal_operations_of a.base.presentation)) (pairs i))
+    pair_unless (list_any (λ (o : Operation). bytes_eq (folded o.name) (same i)) (formal_operations_of a.base.presentation)) (pairs i))
 
 -- ---- Operations that are alike
 
@@ -53,7 +53,7 @@ alike_under type_name (Some pair) one other alike =
     record { named = refl; formed = alike.formed; arguments = alike.arguments; result = alike.result; origin = refl }
 
 alike_in : (operations : List Operation) (one other : Operation) → AreAlike one other
-    → operation_in operations (Some one) ≡ operation_in operations (Some other)
+    → operation_place_in operations (Some one) ≡ operation_place_in operations (Some other)
 alike_in operations one other alike =
     (λ i.
     first_position
@@ -83,12 +83,12 @@ module _ (a : Actualising) where
       }))
 
   operation_at : (i : ℕ) (operation : Operation) → slice_get a.base.presentation.signature.operations i ≡ Some operation
-      → is_marked a.base.presentation.formal_operations i ≡ false
-      → actualised_operation a i ≡ operation_in (actualised_operations a) (Some (other_operation_image a operation))
+      → is_marked_number a.base.presentation.formal_operations i ≡ false
+      → actualised_operation a i ≡ operation_place_in (actualised_operations a) (Some (other_operation_image a operation))
   operation_at i operation there other = ap (λ (found : Option Operation). operation_becomes a i found) there ∙ (rw other refl)
 
   formal_sort_at : (i : ℕ) (sort : Sort) → slice_get a.base.presentation.signature.sorts i ≡ Some sort
-      → is_marked a.base.presentation.formal_sorts i ≡ true → actualised_sort a i ≡ actual_sort a sort
+      → is_marked_number a.base.presentation.formal_sorts i ≡ true → actualised_sort a i ≡ actual_sort a sort
   formal_sort_at i sort there formal = ap (λ (found : Option Sort). sort_becomes a i found) there ∙ (rw formal refl)
 
   sorts_one : (i j : ℕ) → HaveOneActual a i j → actualised_sort a i ≡ actualised_sort a j

@@ -8,8 +8,8 @@ use Rattle.lotos_base.proofs.Members.{at_map}
 use Rattle.lotos_base.specs.Equation.{Equation}
 use Rattle.type_definitions.proofs.NumberLists.{among_at, at_among}
 use Rattle.type_definitions.specs.Images.{operation_image, equation_image}
-use Rattle.type_definitions.specs.Presentation.{Presentation, is_marked, with_new, is_same_equation, first_position}
-use Rattle.type_definitions.specs.Union.{joined, joined_sort, joined_operation, joined_equations}
+use Rattle.type_definitions.specs.Presentation.{Presentation, is_marked_number, with_new, is_same_equation, first_position}
+use Rattle.type_definitions.specs.Union.{joined_presentation, joined_sort, joined_operation, joined_equations}
 use Rattle.type_definitions.proofs.WithNewLemmas.{first_appearances, unions}
 use Rattle.type_presentations.proofs.OnceLemmas.{any_once}
 use Rattle.type_flatten.specs.Containment.{StaysIn, LiesIn}
@@ -17,27 +17,28 @@ use Rattle.type_flatten.specs.UnionBounds.{coming_equations}
 
 -- ---- Marks.
 
-marked_together : (old coming : List ℕ) (n : ℕ) → is_marked (with_new nat_eq old coming) n ≡ (is_marked old n || is_marked coming n)
+marked_together : (old coming : List ℕ) (n : ℕ) → is_marked_number (with_new nat_eq old coming) n
+    ≡ (is_marked_number old n || is_marked_number coming n)
 marked_together old coming n = any_once nat_eq (λ x y h. eqb-true x y h) n old coming
 
-marks_stay : (old coming : List ℕ) (n : ℕ) → is_marked old n ≡ true → is_marked (with_new nat_eq old coming) n ≡ true
-marks_stay old coming n h = marked_together old coming n ∙ or_left (is_marked old n) (is_marked coming n) h
+marks_stay : (old coming : List ℕ) (n : ℕ) → is_marked_number old n ≡ true → is_marked_number (with_new nat_eq old coming) n ≡ true
+marks_stay old coming n h = marked_together old coming n ∙ or_left (is_marked_number old n) (is_marked_number coming n) h
 
-marked_image : (f : ℕ → ℕ) (marks : List ℕ) (n : ℕ) → is_marked marks n ≡ true → is_marked (map f marks) (f n) ≡ true
+marked_image : (f : ℕ → ℕ) (marks : List ℕ) (n : ℕ) → is_marked_number marks n ≡ true → is_marked_number (map f marks) (f n) ≡ true
 marked_image f marks n h =
     let at = at_among marks n h in
     among_at (map f marks) at.0 (f n)
     (slice_get-map f marks at.0 ∙ ap (λ (o : Option ℕ). option_map f o) at.1)
 
-marks_come : (f : ℕ → ℕ) (old marks : List ℕ) (n : ℕ) → is_marked marks n ≡ true
-    → is_marked (with_new nat_eq old (map f marks)) (f n) ≡ true
+marks_come : (f : ℕ → ℕ) (old marks : List ℕ) (n : ℕ) → is_marked_number marks n ≡ true
+    → is_marked_number (with_new nat_eq old (map f marks)) (f n) ≡ true
 marks_come f old marks n h =
     marked_together old (map f marks) (f n)
-    ∙ or_right (is_marked old (f n)) (is_marked (map f marks) (f n)) (marked_image f marks n h)
+    ∙ or_right (is_marked_number old (f n)) (is_marked_number (map f marks) (f n)) (marked_image f marks n h)
 
-pub no_other_marks : (old coming : List ℕ) (n : ℕ) → is_marked (with_new nat_eq old coming) n ≡ true
-    → (is_marked old n ≡ true) ⊎ (is_marked coming n ≡ true)
-no_other_marks old coming n h = or_cases (is_marked old n) (is_marked coming n) (sym (marked_together old coming n) ∙ h)
+pub no_other_marks : (old coming : List ℕ) (n : ℕ) → is_marked_number (with_new nat_eq old coming) n ≡ true
+    → (is_marked_number old n ≡ true) ⊎ (is_marked_number coming n ≡ true)
+no_other_marks old coming n h = or_cases (is_marked_number old n) (is_marked_number coming n) (sym (marked_together old coming n) ∙ h)
 
 -- ---- Staying.
 
@@ -59,7 +60,7 @@ stays_further p q r first next = record {
   formal_operations = λ n h. next.formal_operations n (first.formal_operations n h);
 }
 
-pub first_stays : (p q : Presentation) → StaysIn p (joined p q)
+pub first_stays : (p q : Presentation) → StaysIn p (joined_presentation p q)
 first_stays p q = record {
   sorts = λ i s found. unions.sorts_stay p q i s found;
   operations = λ i o found. unions.operations_stay p q i o found;
@@ -70,7 +71,7 @@ first_stays p q = record {
 
 -- ---- Lying in.
 
-pub second_lies : (p q : Presentation) → LiesIn (joined_sort p q) (joined_operation p q) q (joined p q)
+pub second_lies : (p q : Presentation) → LiesIn (joined_sort p q) (joined_operation p q) q (joined_presentation p q)
 second_lies p q = record {
   sorts = λ i s found. unions.sorts_come p q i s found;
   operations = λ i o found.

@@ -6,8 +6,8 @@ use Rattle.lotos_base.proofs.Bytes.{same_bytes}
 use Rattle.lotos_base.proofs.Members.{at_map, from_map, at_front, at_end}
 use Rattle.lotos_base.specs.Names.{AreOneName, folded}
 use Rattle.lotos_base.specs.WrittenTerm.{PlacedName}
-use Rattle.type_definitions.specs.DeclaredTypes.{DeclaredType, mentions_in, has_name, is_type_name, type_number, type_numbers, mention_graph}
-use Rattle.type_definitions.specs.MentionFaults.{MentionFault, double_type, unknown_type, type_cycle, second_declaration, AreDeclaredOnce, AreAllKnown, mentions_of, IsCyclicMention, IsMentionFault}
+use Rattle.type_definitions.specs.DeclaredTypes.{DeclaredType, mentions_in, is_type_named, is_type_name, type_number, type_numbers, mention_graph}
+use Rattle.type_definitions.specs.MentionFaults.{MentionFault, double_type, unknown_type, type_cycle, second_declaration, AreDeclaredOnce, AreAllKnown, mentions_of_type, IsCyclicMention, IsMentionFault}
 use Rattle.type_definitions.specs.TypeGraph.{mentioned_by, Mentions, MentionsLead, leads_at_once, leads_on, IsMention, IsOnCycle, MentionComesBefore, IsAcyclic}
 use Rattle.type_definitions.proofs.NumberLists.{among_at, at_among}
 use Rattle.type_flatten.specs.FirstCause.{IsNowhere, FirstAlong, stays}
@@ -20,9 +20,9 @@ use Rattle.type_flatten.proofs.NameLemmas.{IsFirstAt, along_at, at_along, nowher
 number_named : (ts : List DeclaredType) (name : List ℕ) → is_type_name ts name ≡ true
     → (t : DeclaredType) × (slice_get ts (type_number ts name) ≡ Some t) × AreOneName t.name name
 number_named [] name e = absurd (cc e)
-number_named (t ∷ ts) name e = by (has_name name t) refl e (λ h. number_named ts name h)
+number_named (t ∷ ts) name e = by (is_type_named name t) refl e (λ h. number_named ts name h)
   where
-    by : (here : Bool) → has_name name t ≡ here → (here || is_type_name ts name) ≡ true
+    by : (here : Bool) → is_type_named name t ≡ here → (here || is_type_name ts name) ≡ true
         → (is_type_name ts name ≡ true → (u : DeclaredType) × (slice_get ts (type_number ts name) ≡ Some u) × AreOneName u.name name)
         → (u : DeclaredType) × (slice_get (t ∷ ts) (if here then 0 else suc (type_number ts name)) ≡ Some u) × AreOneName u.name name
     by true is e later = (t, refl, sym (same_bytes (folded name) (folded t.name) is))
@@ -247,7 +247,7 @@ module _ (types : List DeclaredType) (once : AreDeclaredOnce types) (known : Are
       along_nowhere (IsMentionOnCycle types) t (mentions_in t.body)
       (λ k e there fault is. none k e there (on_cycle_from i k t e at there is.1))
 
-  there_of : (o : Option DeclaredType) (k : ℕ) (m : PlacedName) → slice_get (mentions_of o) k ≡ Some m
+  there_of : (o : Option DeclaredType) (k : ℕ) (m : PlacedName) → slice_get (mentions_of_type o) k ≡ Some m
       → (t : DeclaredType) × (o ≡ Some t) × (slice_get (mentions_in t.body) k ≡ Some m)
   there_of None k m at = absurd (none-some m at)
   there_of (Some t) k m at = (t, refl, at)
@@ -294,7 +294,7 @@ module _ (types : List DeclaredType) (once : AreDeclaredOnce types) (known : Are
         on_cycle = on_cycle_from first.i within.i first.d m first.there within.there within.is.1;
         first = λ l k j before mentions on. none l k j before (row_mention types types l k j mentions) on;
       };
-      is_there = ap (λ (o : Option DeclaredType). slice_get (mentions_of o) within.i) first.there ∙ within.there;
+      is_there = ap (λ (o : Option DeclaredType). slice_get (mentions_of_type o) within.i) first.there ∙ within.there;
     },
     within.is.0,
   )

@@ -1,32 +1,31 @@
 -- Faults of the equations of a type and their causes.
-use Rattle.std.proofs.Common.{◌≡◌, ◌⊎◌, inl, inr, ◌+◌, ℕ, suc, Bool, true, false, ◌&&◌, ◌||◌, not, nat_eq, nat_lt, List, [], ◌∷◌, ◌++◌, length, Option, None, Some, refl, ap, sym, ◌∙◌, subst, arith, codes, eqb-true, length-append}
+use Rattle.std.proofs.Common.{◌≡◌, ◌⊎◌, inl, inr, ◌+◌, ℕ, suc, Bool, true, false, ◌&&◌, ◌||◌, nat_eq, nat_lt, List, [], ◌∷◌, ◌++◌, length, Option, None, Some, refl, ap, sym, ◌∙◌, subst, arith, codes, eqb-true, length-append}
 use Rattle.std.specs.List.{list_any}
-use Rattle.std.proofs.lemmas.Bool.{eq-eqb, both_ways}
+use Rattle.std.proofs.lemmas.Bool.{eq-eqb, both_ways, and_from, and_parts}
+use Rattle.std.proofs.lemmas.Map.Keys.{any_passes_from_place}
 use Rattle.lotos_base.specs.Equation.{Variable, Equation}
 use Rattle.lotos_base.specs.Signature.{Sort, Operation, prefix_form}
 use Rattle.lotos_base.specs.Term.{Term}
 use Rattle.lotos_base.specs.Twins.{form_eq}
 use Rattle.lotos_base.specs.WrittenTerm.{WrittenTerm, written_head}
+use Rattle.lotos_base.proofs.SignatureLemmas.{Decides-form_eq}
+use Rattle.lotos_base.proofs.Tests.{list_any-at}
 use Rattle.syntax_trees.specs.WrittenEquation.{WrittenPremiss}
 use Rattle.syntax_trees.specs.WrittenVariable.{WrittenVariable}
 use Rattle.sort_terms.specs.ReadingOutcome.{ReadingRefusal, answered, refused, SortedTerm, ReadingIs, PairReadingIs, one_name, is_sort_name}
 use Rattle.type_definitions.specs.TypeFault.{TypeFault, premised, no_reading}
 use Rattle.type_definitions.specs.Presentation.{Presentation, presentation_limit, is_too_large}
 use Rattle.type_definitions.specs.Declarations.{sort_numbered}
-use Rattle.type_definitions.specs.DeclaredEquations.{AskedEquation, scope_from, scope_of, fault_of, bool_sort, has_truth, IsSide, IsSideFault, IsReadPremiss, IsPremissFault, AreReadPremisses, IsFirstPremissFault, equation_of_sides, with_sides, IsFaultOfSides}
+use Rattle.type_definitions.specs.DeclaredEquations.{AskedEquation, scope_from, scope_of, type_fault_of, bool_sort, has_truth, IsSide, IsSideFault, IsReadPremiss, IsPremissFault, AreReadPremisses, IsFirstPremissFault, equation_of_sides, with_sides, IsFaultOfSides}
 use Rattle.type_definitions.proofs.NumberLists.{not_true}
 use Rattle.type_flatten.specs.FirstCause.{IsNowhere, FirstAlong, at_once, further_on, stays}
 use Rattle.type_flatten.specs.FaultCauses.{Cause}
 use Rattle.type_flatten.specs.ReadingCauses.{RefusalCause, TermBrings}
 use Rattle.type_flatten.specs.EquationCauses.{ToldAsFault, SideBrings, HasTruth, LacksTruth, PremissBrings, PremissOf, IsTooMuchWith, SidesBring}
-use Rattle.type_flatten.proofs.CauseLemmas.{Decides, any_from, any_to, names_decided, forms_same, both_true, and_true, less_decided, either_decided}
+use Rattle.type_flatten.proofs.CauseLemmas.{Decides, names_decided, less_decided, either_decided}
 use Rattle.type_flatten.proofs.ReadingLemmas.{readings_refused}
 
 -- ---- Tests
-
-pub not_false : (test : Bool) → test ≡ false → not test ≡ true
-not_false true e = absurd (cc e)
-not_false false e = refl
 
 none_long : {A : Type 0} (xs : List A) → nat_eq (length xs) 0 ≡ true → xs ≡ []
 none_long [] e = refl
@@ -39,17 +38,17 @@ truth_decided p = (from, to)
   where
     from : has_truth p ≡ true → HasTruth p
     from e =
-        let parts = both_true (is_sort_name p.signature (codes "Bool")) (list_any
+        let parts = and_parts (is_sort_name p.signature (codes "Bool")) (list_any
         (λ (o : Operation). (one_name o.name (codes "true") && form_eq o.form prefix_form) &&
         (nat_eq (length o.arguments) 0 && nat_eq o.result (bool_sort p))) p.signature.operations) e in
-        let sort = any_from (λ (s : Sort). one_name s.name (codes "Bool")) p.signature.sorts parts.0 in
-        let found = any_from
+        let sort = list_any-at (λ (s : Sort). one_name s.name (codes "Bool")) p.signature.sorts parts.0 in
+        let found = list_any-at
         (λ (o : Operation). (one_name o.name (codes "true") && form_eq o.form prefix_form) &&
         (nat_eq (length o.arguments) 0 && nat_eq o.result (bool_sort p))) p.signature.operations parts.1 in
-        let halves = both_true (one_name found.1.name (codes "true") && form_eq found.1.form prefix_form)
+        let halves = and_parts (one_name found.1.name (codes "true") && form_eq found.1.form prefix_form)
         (nat_eq (length found.1.arguments) 0 && nat_eq found.1.result (bool_sort p)) found.3 in
-        let front = both_true (one_name found.1.name (codes "true")) (form_eq found.1.form prefix_form) halves.0 in
-        let back = both_true (nat_eq (length found.1.arguments) 0) (nat_eq found.1.result (bool_sort p)) halves.1 in
+        let front = and_parts (one_name found.1.name (codes "true")) (form_eq found.1.form prefix_form) halves.0 in
+        let back = and_parts (nat_eq (length found.1.arguments) 0) (nat_eq found.1.result (bool_sort p)) halves.1 in
         record {
           i = sort.0;
           sort = sort.1;
@@ -59,23 +58,23 @@ truth_decided p = (from, to)
           operation = found.1;
           is_operation = found.2;
           named = (names_decided found.1.name (codes "true")).0 front.0;
-          formed = (forms_same found.1.form prefix_form).0 front.1;
+          formed = (Decides-form_eq found.1.form prefix_form).0 front.1;
           constant = none_long found.1.arguments back.0;
           result = eqb-true found.1.result (bool_sort p) back.1;
         }
 
     to : HasTruth p → has_truth p ≡ true
     to is =
-        and_true (is_sort_name p.signature (codes "Bool")) _
-        (any_to (λ (s : Sort). one_name s.name (codes "Bool")) p.signature.sorts is.i is.sort is.is_sort
+        and_from (is_sort_name p.signature (codes "Bool")) _
+        (any_passes_from_place (λ (s : Sort). one_name s.name (codes "Bool")) p.signature.sorts is.i is.sort is.is_sort
         ((names_decided is.sort.name (codes "Bool")).1 is.called))
-        (any_to
+        (any_passes_from_place
         (λ (o : Operation). (one_name o.name (codes "true") && form_eq o.form prefix_form) &&
         (nat_eq (length o.arguments) 0 && nat_eq o.result (bool_sort p))) p.signature.operations is.k is.operation is.is_operation
-        (and_true (one_name is.operation.name (codes "true") && form_eq is.operation.form prefix_form) _
-        (and_true (one_name is.operation.name (codes "true")) (form_eq is.operation.form prefix_form)
-        ((names_decided is.operation.name (codes "true")).1 is.named) ((forms_same is.operation.form prefix_form).1 is.formed))
-        (and_true (nat_eq (length is.operation.arguments) 0) (nat_eq is.operation.result (bool_sort p))
+        (and_from (one_name is.operation.name (codes "true") && form_eq is.operation.form prefix_form) _
+        (and_from (one_name is.operation.name (codes "true")) (form_eq is.operation.form prefix_form)
+        ((names_decided is.operation.name (codes "true")).1 is.named) ((Decides-form_eq is.operation.form prefix_form).1 is.formed))
+        (and_from (nat_eq (length is.operation.arguments) 0) (nat_eq is.operation.result (bool_sort p))
         (ap (λ (xs : List ℕ). nat_eq (length xs) 0) is.constant) (eq-eqb is.operation.result (bool_sort p) is.result))))
 
 -- ---- The presentation with these equations. Its sorts and operations stay.
@@ -126,7 +125,7 @@ module _ (p : Presentation) where
 
     -- the term has a reading at the sort, or a refusal
     no_refusal : (w : WrittenTerm) (s : ℕ) → IsNowhere (ToldAsFault (TermAt w s)) → IsNowhere (TermAt w s)
-    no_refusal w s none refusal is = none (fault_of refusal) (refusal, is, refl)
+    no_refusal w s none refusal is = none (type_fault_of refusal) (refusal, is, refl)
 
     read_of : (w : WrittenTerm) (s : ℕ) → IsNowhere (ToldAsFault (TermAt w s))
         → (r : SortedTerm) × ReadingIs p.signature (scope_of (holding p es) asked) w (Some s) (answered r)
@@ -140,12 +139,13 @@ module _ (p : Presentation) where
         (readings_refused.read p.signature (scope_of p asked) w (Some s)).1 (r, read_there w s r is) told.0 told.1
 
     told_of : (w : WrittenTerm) (s : ℕ) (fault : TypeFault) (r : ReadingRefusal)
-        → ReadingIs p.signature (scope_of (holding p es) asked) w (Some s) (refused r) → fault_of r ≡ fault → ToldAsFault (TermAt w s) fault
+        → ReadingIs p.signature (scope_of (holding p es) asked) w (Some s) (refused r) → type_fault_of r ≡ fault
+        → ToldAsFault (TermAt w s) fault
     told_of w s fault r is same =
         (r, (readings_refused.terms p.signature (scope_of p asked) w (Some s) r).0 (refused_there w s r is), sym same)
 
     of_told : (w : WrittenTerm) (s : ℕ) (fault : TypeFault) → ToldAsFault (TermAt w s) fault
-        → (r : ReadingRefusal) × ReadingIs p.signature (scope_of (holding p es) asked) w (Some s) (refused r) × (fault_of r ≡ fault)
+        → (r : ReadingRefusal) × ReadingIs p.signature (scope_of (holding p es) asked) w (Some s) (refused r) × (type_fault_of r ≡ fault)
     of_told w s fault told =
         (told.0, refused_here w s told.0 ((readings_refused.terms p.signature (scope_of p asked) w (Some s) told.0).1 told.1), sym told.2)
 
@@ -205,7 +205,7 @@ module _ (p : Presentation) where
         → IsReadPremiss Here asked left right
     premiss_read left (Some right) none =
         let found = (readings_refused.both_read p.signature (scope_of p asked) left right).0
-        (λ refusal is. none (fault_of refusal) (refusal, is, refl)) in
+        (λ refusal is. none (type_fault_of refusal) (refusal, is, refl)) in
         (found.0, subst (λ (vs : List Variable). PairReadingIs p.signature vs left right (answered found.0)) (sym scope) found.1)
     premiss_read left None none =
         let lacking : IsNowhere (LacksTruth p left) = (λ other is. none other (inl is)) in (

@@ -9,10 +9,10 @@ use Rattle.type_definitions.specs.Declarations.{sort_numbered}
 use Rattle.type_definitions.specs.DeclaredEquations.{EquationQuestion, AskedEquation, formal_asked, own_asked, equation_asked, asked_of_variables, asked_of_group, asked_of_section, GivesPresentation, sort_is_there, formal_is_read, own_is_read, GiveAll, none_asked, next_gives, scope_of, equation_of_sides}
 use Rattle.type_definitions.specs.Extension.{asked_of}
 use Rattle.type_presentations.proofs.GrowthLemmas.{data_with_equation}
-use Rattle.type_equations.proofs.GivenLemmas.{gives_same, give_all_same}
-use Rattle.type_equations.proofs.OverLemmas.{sides_over, scopes_numbered}
-use Rattle.type_equations.proofs.AskedLemmas.{sorts_there, give_both}
-use Rattle.type_equations.proofs.SectionLemmas.{variables_over, side_reads}
+use Rattle.type_actualisation.proofs.HandedOn.{gives_same, give_all_same}
+use Rattle.type_actualisation.proofs.HandedOn.{sides_over, scopes_numbered}
+use Rattle.type_actualisation.proofs.HandedOn.{sorts_there, give_both}
+use Rattle.type_actualisation.proofs.HandedOn.{variables_over, side_reads}
 use Rattle.type_flatten.specs.FlattenedData.{IsFine}
 
 -- ---- One after another.

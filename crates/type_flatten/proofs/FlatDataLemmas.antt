@@ -6,7 +6,7 @@ use Rattle.sort_terms.specs.EquationView.{equation_of, data_of as data_in}
 use Rattle.sort_terms.specs.SignatureView.{signature_of}
 use Rattle.sort_terms.specs.declared.equations.Equation.{Equation as CodeEquation}
 use Rattle.sort_terms.specs.declared.equations.Flat.{Flat}
-use Rattle.type_definitions.specs.Flattened.{data_of}
+use Rattle.type_definitions.specs.Flattened.{flattened_data_of}
 use Rattle.type_presentations.specs.EquationListView.{HaveSidesOf}
 use Rattle.type_presentations.specs.PresentationView.{presentation_of, IsSound}
 use Rattle.type_presentations.specs.declared.presentations.Presentation.{Presentation}
@@ -17,7 +17,7 @@ pub data_made : (p : Presentation) (flat : Flat) → signature_of flat.signature
 data_made p flat signature equations sound =
     let whole : Signature → List CodeEquation → Data =
     λ s es. record { signature = s; equations = map equation_of es } in
-    let same : data_in flat ≡ data_of (presentation_of p) =
+    let same : data_in flat ≡ flattened_data_of (presentation_of p) =
     ap (λ (s : Signature). whole s flat.equations.items) signature
     ∙ ap (λ (es : List CodeEquation). whole (presentation_of p).signature es) equations in record {
       same = same;

@@ -12,17 +12,17 @@ use Rattle.sort_terms.proofs.OutcomeLemmas.{same_answer}
 use Rattle.type_definitions.specs.DeclaredTypes.{DeclaredType, mention_graph}
 use Rattle.type_definitions.proofs.UnknownLemmas.{graph_within}
 use Rattle.type_definitions.specs.TypeGraph.{is_among}
-use Rattle.type_definitions.specs.FlatteningOrder.{ComesTo, flattened_already, flattened_now, ComesToEach, none_left, next_come_to, IsFlatteningOrder}
+use Rattle.type_definitions.specs.FlatteningOrder.{FlatteningComesTo, flattened_already, flattened_now, ComesToEach, none_left, next_come_to, IsFlatteningOrder}
 use Rattle.type_definitions.specs.TypeFault.{TypeFault}
 use Rattle.type_definitions.specs.Presentation.{Presentation}
 use Rattle.type_definitions.specs.Union.{Mentioned, union_of, union_fault}
 use Rattle.type_definitions.specs.Declarations.{declaration_fault}
 use Rattle.type_definitions.specs.DeclaredEquations.{AskedEquation, EquationQuestion, IsSide, with_sides, GivesPresentation, sort_is_there, formal_is_read, own_is_read, GiveAll, none_asked, next_gives}
 use Rattle.type_definitions.specs.Extension.{extended, extended_fault, asked_of, IsExtension, IsExtensionFault}
-use Rattle.type_definitions.specs.Renaming.{renaming, renaming_fault}
+use Rattle.type_definitions.specs.Renaming.{renamed_presentation, renaming_fault}
 use Rattle.type_definitions.specs.Actualisation.{actualisation}
 use Rattle.type_definitions.specs.ActualisationFaults.{actualising_of, actualisation_fault}
-use Rattle.type_definitions.specs.Flattened.{presentation_named, mention_of, mentions_with, IsPresentation, IsFaultOfType, declared_with, ArePresented, all_presented, next_presented, HasFaultyType, faulty_now, faulty_later, without_formals, data_of, types_at, IsFlattening, IsFlatteningFault}
+use Rattle.type_definitions.specs.Flattened.{presentation_named, mention_of, mentions_with, IsPresentation, IsFaultOfType, declared_with, ArePresented, all_presented, next_presented, HasFaultyType, faulty_now, faulty_later, without_formals, flattened_data_of, types_at, IsFlattening, IsFlatteningFault}
 use Rattle.type_flatten.specs.FirstCause.{IsNowhere, OrElse}
 use Rattle.type_flatten.specs.FaultCauses.{Cause, DeclarationsBring}
 use Rattle.type_flatten.specs.EquationCauses.{EquationsBring}
@@ -104,7 +104,7 @@ presented_of : (done : List Mentioned) (type_name : List ℕ) (body : WrittenTyp
     → (p : Presentation) × IsPresentation done type_name body p
 presented_of done type_name (extends imports sections) none = extension_given (mentions_with done imports) type_name sections none
 presented_of done type_name (renames base pairs) none = (
-  renaming (presentation_named done base.name) type_name pairs,
+  renamed_presentation (presentation_named done base.name) type_name pairs,
   (
     none_where (renaming_fault (presentation_named done base.name) type_name pairs)
         (RenamingBrings (presentation_named done base.name) type_name pairs)
@@ -224,8 +224,8 @@ told_all types fault (order, ordered, inr (none, last)) =
 -- ---- The data, by the one order of flattening
 
 mutual
-  order_once : {graph : List (List ℕ)} {done one other : List ℕ} {i : ℕ} → ComesTo graph done i one
-      → ComesTo graph done i other → one ≡ other
+  order_once : {graph : List (List ℕ)} {done one other : List ℕ} {i : ℕ} → FlatteningComesTo graph done i one
+      → FlatteningComesTo graph done i other → one ≡ other
   order_once (flattened_already done i told) (flattened_already _ _ also) = refl
   order_once (flattened_already done i told) (flattened_now _ more _ untold each) = absurd (both_ways (is_among done i) untold told)
   order_once (flattened_now done more i untold each) (flattened_already _ _ told) = absurd (both_ways (is_among done i) untold told)
@@ -247,7 +247,7 @@ flattened_of types order ordered none =
     none_where (union_fault (without_formals found.0)) (UnionBrings (without_formals found.0))
     (unions_faulty.unions (without_formals found.0))
     (λ fault brings. none fault (inr (first, record { all = found.0; presented = found.1; brings = brings }))) in (
-      data_of (union_of (without_formals found.0)),
+      flattened_data_of (union_of (without_formals found.0)),
       record { order = order; ordered = ordered; all = found.0; presented = found.1; united = united; answered = refl },
     )
 

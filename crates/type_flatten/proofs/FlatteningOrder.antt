@@ -5,7 +5,7 @@ use Rattle.std.proofs.Math.Dec.{eqb}
 use Rattle.std.proofs.lemmas.Bool.{eq-eqb, or_cases, or_left, or_right}
 use Rattle.std.proofs.lemmas.Map.Steps.{length-le_from_distinct_below}
 use Rattle.type_definitions.specs.TypeGraph.{mentioned_by, is_among, Mentions, MentionsLead, leads_at_once, leads_on, IsWithin, IsAcyclic}
-use Rattle.type_definitions.specs.FlatteningOrder.{ComesTo, flattened_already, flattened_now, ComesToEach, none_left, next_come_to, numbers_from, IsFlatteningOrder}
+use Rattle.type_definitions.specs.FlatteningOrder.{FlatteningComesTo, flattened_already, flattened_now, ComesToEach, none_left, next_come_to, counted_from, IsFlatteningOrder}
 use Rattle.type_definitions.proofs.NumberLists.{among_none}
 
 none_equal : (q : ℕ) (xs : List ℕ) → (is_among xs q ≡ true → ⊥) → AllByRecursion (λ y. eqb q y ≡ false) xs
@@ -16,13 +16,13 @@ none_equal q (x ∷ xs) none = (by (eqb q x) refl, none_equal q xs (λ h. none (
     by true same = absurd (none (or_left (nat_eq q x) (is_among xs q) same))
     by false differ = differ
 
-numbers_below : (first count j : ℕ) → is_among (numbers_from first count) j ≡ true → j < first + count
+pub numbers_below : (first count j : ℕ) → is_among (counted_from first count) j ≡ true → j < first + count
 numbers_below first zero j h = among_none j h
 numbers_below first (suc count) j h =
-    by (or_cases (nat_eq j first) (is_among (numbers_from (suc first) count) j) h) (λ more. numbers_below (suc first) count j more)
+    by (or_cases (nat_eq j first) (is_among (counted_from (suc first) count) j) h) (λ more. numbers_below (suc first) count j more)
   where
-    by : (nat_eq j first ≡ true) ⊎ (is_among (numbers_from (suc first) count) j ≡ true)
-        → (is_among (numbers_from (suc first) count) j ≡ true → j < suc first + count) → j < first + suc count
+    by : (nat_eq j first ≡ true) ⊎ (is_among (counted_from (suc first) count) j ≡ true)
+        → (is_among (counted_from (suc first) count) j ≡ true → j < suc first + count) → j < first + suc count
     by (inl same) later = let e = eqb-true j first same in omega (arith, e)
     by (inr more) later = let less = later more in omega (arith, less)
 
@@ -72,7 +72,7 @@ module _ (graph : List (List ℕ)) (within : IsWithin graph) (acyclic : IsAcycli
       absurd (omega (arith, many, more))
 
   each_comes : (numbers done : List ℕ)
-      → ((j : ℕ) (before : List ℕ) → is_among numbers j ≡ true → (all : List ℕ) × ComesTo graph before j all)
+      → ((j : ℕ) (before : List ℕ) → is_among numbers j ≡ true → (all : List ℕ) × FlatteningComesTo graph before j all)
       → (all : List ℕ) × ComesToEach graph done numbers all
   each_comes [] done come = (done, none_left done)
   each_comes (j ∷ js) done come =
@@ -81,7 +81,7 @@ module _ (graph : List (List ℕ)) (within : IsWithin graph) (acyclic : IsAcycli
       (rest.0, next_come_to done first.0 rest.0 j js first.1 rest.1)
 
   comes : (steps : ℕ) (path : List ℕ) (i : ℕ) (done : List ℕ) → length graph ≤ length path + steps → IsPath path i → i < length graph
-      → (all : List ℕ) × ComesTo graph done i all
+      → (all : List ℕ) × FlatteningComesTo graph done i all
   comes zero path i done enough is less = absurd (full path i is less (omega (arith, enough)))
   comes (suc steps) path i done enough is less =
       by (is_among done i) refl
@@ -91,7 +91,7 @@ module _ (graph : List (List ℕ)) (within : IsWithin graph) (acyclic : IsAcycli
       (path_on path i j is less m) (within i j m)))
     where
       by : (told : Bool) → is_among done i ≡ told → ((more : List ℕ) × ComesToEach graph done (mentioned_by graph i) more)
-          → (all : List ℕ) × ComesTo graph done i all
+          → (all : List ℕ) × FlatteningComesTo graph done i all
       by true e rest = (done, flattened_already done i e)
       by false e rest = (rest.0 ++ i ∷ [], flattened_now done rest.0 i e rest.1)
 
@@ -101,7 +101,7 @@ module _ (graph : List (List ℕ)) (within : IsWithin graph) (acyclic : IsAcycli
 
   pub order_there : (order : List ℕ) × IsFlatteningOrder graph order
   order_there =
-      each_comes (numbers_from 0 (length graph)) []
+      each_comes (counted_from 0 (length graph)) []
       (λ j before h.
       comes (length graph) [] j before (let enough : length graph ≤ 0 + length graph = omega arith in enough) (no_path j)
       (let less : j < 0 + length graph = numbers_below 0 (length graph) j h in omega (arith, less)))

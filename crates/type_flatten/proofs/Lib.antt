@@ -3,12 +3,7 @@ pub mod OneTypeSteps
 pub mod AllTypesLemmas
 pub mod OrderLemmas
 pub mod FlatDataLemmas
-pub mod FormalLemmas
-pub mod OwnLemmas
-pub mod TypesLemmas
-pub mod OneFormalLemmas
 pub mod AllFormalLemmas
-pub mod BodyLemmas
 pub mod ContainmentLemmas
 pub mod OneToOneLemmas
 pub mod UnionBoundLemmas

@@ -1,15 +1,17 @@
 -- Faults of the names of types and their causes.
 use Rattle.std.proofs.Common.{◌≡◌, ◌↔◌, ◌<◌, ℕ, zero, suc, Bool, true, false, if◌then◌else◌, List, [], ◌∷◌, ◌++◌, Option, None, Some, refl, ap, sym, ◌∙◌, subst, arith, slice_get}
 use Rattle.std.proofs.lemmas.Option.{same_Some}
+use Rattle.std.proofs.lemmas.Map.Keys.{any_passes_from_place}
 use Rattle.lotos_base.proofs.Bytes.{same_bytes, bytes_same}
 use Rattle.lotos_base.proofs.Options.{none_and_some, none_unless_some}
 use Rattle.lotos_base.specs.Names.{folded}
 use Rattle.lotos_base.specs.WrittenTerm.{PlacedName}
-use Rattle.type_definitions.specs.DeclaredTypes.{DeclaredType, mentions_in, has_name, is_type_name}
-use Rattle.type_definitions.specs.MentionFaults.{MentionFault, double_type, unknown_type, second_declaration, unknown_among, unknown_mention, first_of, AreDeclaredOnce, AreAllKnown}
+use Rattle.lotos_base.proofs.Tests.{list_any-at}
+use Rattle.type_definitions.specs.DeclaredTypes.{DeclaredType, mentions_in, is_type_named, is_type_name}
+use Rattle.type_definitions.specs.MentionFaults.{MentionFault, double_type, unknown_type, second_declaration, unknown_among, unknown_mention, earlier_of_two, AreDeclaredOnce, AreAllKnown}
 use Rattle.type_flatten.specs.FirstCause.{IsNowhere, FirstAlong, at_once, further_on, stays, and_also}
 use Rattle.type_flatten.specs.NameCauses.{NameCause, NamesType, IsDeclaredAgain, IsMentionOfNone, UnknownOf}
-use Rattle.type_flatten.proofs.CauseLemmas.{Decides, any_from, any_to}
+use Rattle.type_flatten.proofs.CauseLemmas.{Decides}
 
 -- ---- Steps that change nothing
 
@@ -66,9 +68,9 @@ module _ {F S D : Type 0} (Is : S → D → F → Type 0) (state : S) where
 
 name_decided : (types : List DeclaredType) (name : List ℕ) → Decides (is_type_name types name) (NamesType types name)
 name_decided types name = (
-  λ e. let found = any_from (has_name name) types e in
+  λ e. let found = list_any-at (is_type_named name) types e in
       (found.0, found.1, found.2, sym (same_bytes (folded name) (folded found.1.name) found.3)),
-  λ is. any_to (has_name name) types is.0 is.1 is.2 (bytes_same (folded name) (folded is.1.name) (sym is.3)),
+  λ is. any_passes_from_place (is_type_named name) types is.0 is.1 is.2 (bytes_same (folded name) (folded is.1.name) (sym is.3)),
 )
 
 pub not_named : (types : List DeclaredType) (name : List ℕ) → (is_type_name types name ≡ false) ↔ (¬ NamesType types name)
@@ -145,8 +147,8 @@ among_to types _ fault (further_on {d = x} {ds = xs} none rest) =
     by true is m e = rw is e
     by false is m e = absurd (none (unknown_type x.place x.name) (refl, (not_named types x.name).0 is))
 
-first_of_some : {A : Type 0} (o p : Option A) (x : A) → o ≡ Some x → first_of o p ≡ Some x
-first_of_some {A = A} o p x e = ap (λ (q : Option A). first_of q p) e
+first_of_some : {A : Type 0} (o p : Option A) (x : A) → o ≡ Some x → earlier_of_two o p ≡ Some x
+first_of_some {A = A} o p x e = ap (λ (q : Option A). earlier_of_two q p) e
 
 pub mention_from : (types ts : List DeclaredType) (m : PlacedName) → unknown_mention types ts ≡ Some m
     → FirstAlong UnknownOf stays types ts (unknown_type m.place m.name)
@@ -154,7 +156,7 @@ mention_from types [] m e = absurd (cc e)
 mention_from types (t ∷ ts) m e = by (unknown_among types (mentions_in t.body)) refl e (λ h. mention_from types ts m h)
   where
     by : (here : Option PlacedName) → unknown_among types (mentions_in t.body) ≡ here
-        → first_of here (unknown_mention types ts) ≡ Some m
+        → earlier_of_two here (unknown_mention types ts) ≡ Some m
         → (unknown_mention types ts ≡ Some m → FirstAlong UnknownOf stays types ts (unknown_type m.place m.name))
         → FirstAlong UnknownOf stays types (t ∷ ts) (unknown_type m.place m.name)
     by None is found later =
@@ -171,7 +173,7 @@ mention_to types _ fault (at_once {d = t} {ds = ts} is) =
     (found.0, first_of_some (unknown_among types (mentions_in t.body)) (unknown_mention types ts) found.0 found.1, found.2)
 mention_to types _ fault (further_on {d = t} {ds = ts} none rest) =
     let found = mention_to types ts fault rest in
-    (found.0, ap (λ (o : Option PlacedName). first_of o (unknown_mention types ts)) nothing ∙ found.1, found.2)
+    (found.0, ap (λ (o : Option PlacedName). earlier_of_two o (unknown_mention types ts)) nothing ∙ found.1, found.2)
   where
     nothing : unknown_among types (mentions_in t.body) ≡ None
     nothing =

@@ -2,10 +2,11 @@
 use Rattle.std.proofs.Common.{refl, ap, sym, ◌≡◌, subst, ℕ, List, [], ◌∷◌, ◌++◌}
 use Rattle.std.proofs.lemmas.Bool.{both_ways}
 use Rattle.type_definitions.specs.TypeGraph.{is_among}
-use Rattle.type_definitions.specs.FlatteningOrder.{ComesTo, flattened_already, flattened_now, ComesToEach, none_left, next_come_to, IsFlatteningOrder}
+use Rattle.type_definitions.specs.FlatteningOrder.{FlatteningComesTo, flattened_already, flattened_now, ComesToEach, none_left, next_come_to, IsFlatteningOrder}
 
 mutual
-  comes_once : {graph : List (List ℕ)} {done one other : List ℕ} {i : ℕ} → ComesTo graph done i one → ComesTo graph done i other
+  comes_once : {graph : List (List ℕ)} {done one other : List ℕ} {i : ℕ} → FlatteningComesTo graph done i one
+      → FlatteningComesTo graph done i other
       → one ≡ other
   comes_once (flattened_already done i told) (flattened_already _ _ also) = refl
   comes_once (flattened_already done i told) (flattened_now _ more _ untold each) = absurd (both_ways (is_among done i) untold told)

@@ -12,7 +12,7 @@ use Rattle.type_definitions.specs.Union.{Mentioned, union_of, union_fault}
 use Rattle.type_definitions.specs.Extension.{extended, extended_fault, asked_of}
 use Rattle.type_definitions.specs.Renaming.{renaming_fault}
 use Rattle.type_definitions.specs.ActualisationFaults.{actualisation_fault}
-use Rattle.type_definitions.specs.Flattened.{presentation_named, mention_of, mentions_with, IsPresentation, IsFaultOfType, declared_with, ArePresented, all_presented, next_presented, HasFaultyType, faulty_now, faulty_later, without_formals, data_of, types_at, IsFlattening, IsFlatteningFault}
+use Rattle.type_definitions.specs.Flattened.{presentation_named, mention_of, mentions_with, IsPresentation, IsFaultOfType, declared_with, ArePresented, all_presented, next_presented, HasFaultyType, faulty_now, faulty_later, without_formals, flattened_data_of, types_at, IsFlattening, IsFlatteningFault}
 use Rattle.type_flatten.specs.FlatteningOutcomes.{EquationsAreDecided, FlatteningIsDecided}
 use Rattle.type_flatten.proofs.OneOrder.{order_once}
 use Rattle.type_flatten.proofs.OneReading.{equations_are_decided}
@@ -106,7 +106,7 @@ module _ (equations : EquationsAreDecided) where
     one_data : (d e : Data) → IsFlattening types d → IsFlattening types e → d ≡ e
     one_data d e is also =
         sym is.answered
-        ∙ ap (λ (ms : List Mentioned). data_of (union_of (without_formals ms)))
+        ∙ ap (λ (ms : List Mentioned). flattened_data_of (union_of (without_formals ms)))
         (all_same is.order also.order is.all also.all is.ordered also.ordered is.presented also.presented)
         ∙ also.answered
 

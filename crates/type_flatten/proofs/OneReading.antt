@@ -13,7 +13,7 @@ use Rattle.sort_terms.proofs.OutcomeLemmas.{not_answered_and_refused}
 use Rattle.type_definitions.specs.TypeFault.{TypeFault, premised}
 use Rattle.type_definitions.specs.Presentation.{Presentation, is_too_large}
 use Rattle.type_definitions.specs.Declarations.{sort_numbered}
-use Rattle.type_definitions.specs.DeclaredEquations.{AskedEquation, EquationQuestion, scope_of, fault_of, bool_sort, IsSide, IsSideFault, has_truth, IsReadPremiss, IsPremissFault, AreReadPremisses, IsFirstPremissFault, with_sides, GivesPresentation, sort_is_there, formal_is_read, own_is_read, IsFaultOfSides, QuestionHasFault, sort_is_unknown, formal_side, formal_premiss, own_has_premisses, own_side, one_too_many, GiveAll, none_asked, next_gives, HasFirstFault, at_once, further_on}
+use Rattle.type_definitions.specs.DeclaredEquations.{AskedEquation, EquationQuestion, scope_of, type_fault_of, bool_sort, IsSide, IsSideFault, has_truth, IsReadPremiss, IsPremissFault, AreReadPremisses, IsFirstPremissFault, with_sides, GivesPresentation, sort_is_there, formal_is_read, own_is_read, IsFaultOfSides, QuestionHasFault, sort_is_unknown, formal_side, formal_premiss, own_has_premisses, own_side, one_too_many, GiveAll, none_asked, next_gives, HasFirstFault, at_once, further_on}
 use Rattle.type_flatten.specs.FlatteningOutcomes.{EquationsAreDecided}
 
 -- ---- A reading
@@ -26,13 +26,9 @@ abbrev refusal_in : {A : Type 0} → ReadingRefusal → ReadingOutcome A → Rea
 refusal_in other (answered x) = other
 refusal_in other (refused refusal) = refusal
 
-abbrev IsAnswered : {A : Type 0} → ReadingOutcome A → Type 0
-IsAnswered (answered x) = Unit {0}
-IsAnswered (refused refusal) = ⊥
-
 refusals_once : {A : Type 0} (one other : ReadingRefusal) → ◌≡◌ {A = ReadingOutcome A} (refused one) (refused other)
-    → fault_of one ≡ fault_of other
-refusals_once {A} one other same = ap (λ (o : ReadingOutcome A). fault_of (refusal_in one o)) same
+    → type_fault_of one ≡ type_fault_of other
+refusals_once {A} one other same = ap (λ (o : ReadingOutcome A). type_fault_of (refusal_in one o)) same
 
 module _ (p : Presentation) (asked : AskedEquation) where
   read_once : (w : WrittenTerm) (expected : Option ℕ) (one other : ReadingOutcome SortedTerm)

@@ -14,7 +14,7 @@ use Rattle.sort_terms.specs.WellFormedTest.{are_one_sort, are_one_operation}
 use Rattle.sort_terms.proofs.NodeLemmas.{forms_eq}
 use Rattle.type_definitions.specs.Images.{operation_image}
 use Rattle.type_definitions.specs.Presentation.{Presentation, is_same_sort, is_same_operation}
-use Rattle.type_definitions.specs.Union.{joined, joined_sort, joined_operation}
+use Rattle.type_definitions.specs.Union.{joined_presentation, joined_sort, joined_operation}
 use Rattle.type_flatten.specs.Containment.{IsOneToOne}
 use Rattle.type_flatten.proofs.ContainmentLemmas.{second_lies}
 
@@ -88,7 +88,7 @@ sorts_apart p q fine s t known other same =
     let one = (second_lies p q).sorts s x.0 x.1 in
     let two = (second_lies p q).sorts t y.0 y.1 in
     let alike : one.0 ≡ two.0 =
-    same_Some _ _ (sym one.1 ∙ ap (λ (n : ℕ). slice_get (joined p q).signature.sorts n) same ∙ two.1) in
+    same_Some _ _ (sym one.1 ∙ ap (λ (n : ℕ). slice_get (joined_presentation p q).signature.sorts n) same ∙ two.1) in
     fine.sort_names s t x.0 y.0 x.1 y.1
     (sort_name x.0 one.0 one.2 ∙ ap (λ (u : Sort). folded u.name) alike ∙ sym (sort_name y.0 two.0 two.2))
 
@@ -99,7 +99,7 @@ operations_apart p q fine f g o r at there same =
     let one = (second_lies p q).operations f o at in
     let two = (second_lies p q).operations g r there in
     let alike : one.0 ≡ two.0 =
-    same_Some _ _ (sym one.1 ∙ ap (λ (n : ℕ). slice_get (joined p q).signature.operations n) same ∙ two.1) in
+    same_Some _ _ (sym one.1 ∙ ap (λ (n : ℕ). slice_get (joined_presentation p q).signature.operations n) same ∙ two.1) in
     let both : AreAlike (operation_image to o) (operation_image to r) =
     both_alike (operation_image to o) (operation_image to r) two.0
     (subst (λ (u : Operation). AreAlike (operation_image to o) u) alike (same_operation (operation_image to o) one.0 one.2))

@@ -9,10 +9,11 @@ use Rattle.type_definitions.specs.Union.{Mentioned, union_of, union_fault}
 use Rattle.type_definitions.specs.Declarations.{with_declarations, declaration_fault}
 use Rattle.type_definitions.specs.DeclaredEquations.{GiveAll, HasFirstFault}
 use Rattle.type_definitions.specs.Extension.{extended, extended_fault, asked_of, IsExtension, IsExtensionFault}
-use Rattle.type_definitions.specs.Renaming.{renaming, renaming_fault}
-use Rattle.type_definitions.specs.Actualisation.{Actualising, is_formal, actualisation}
+use Rattle.type_definitions.specs.Renaming.{renamed_presentation, renaming_fault}
+use Rattle.type_definitions.specs.Actualisation.{is_formal, actualisation}
 use Rattle.type_definitions.specs.ActualisationFaults.{actualising_of, actualising_fault, actualisation_fault}
 use Rattle.type_definitions.specs.Flattened.{presentation_named, mention_of, mentions_with, IsPresentation, IsFaultOfType}
+use Rattle.type_actualisation.proofs.OneFormalLemmas.{put_together}
 
 -- ---- Extension. Its imports are `ms`, as they were put together.
 
@@ -79,11 +80,11 @@ equations_faulty ms imports union declared name sections f are have found =
 -- ---- Renaming.
 
 pub renaming_made : (done : List Mentioned) (name : List ℕ) (at : PlacedName) (pairs : WrittenPairs) (base p : Presentation)
-    → base ≡ presentation_named done at.name → renaming_fault base name pairs ≡ None → p ≡ renaming base name pairs
+    → base ≡ presentation_named done at.name → renaming_fault base name pairs ≡ None → p ≡ renamed_presentation base name pairs
     → IsPresentation done name (renames at pairs) p
 renaming_made done name at pairs base p is fine made = (
   ap (λ (q : Presentation). renaming_fault q name pairs) (sym is) ∙ fine,
-  ap (λ (q : Presentation). renaming q name pairs) (sym is) ∙ sym made,
+  ap (λ (q : Presentation). renamed_presentation q name pairs) (sym is) ∙ sym made,
 )
 
 pub renaming_faulty : (done : List Mentioned) (name : List ℕ) (at : PlacedName) (pairs : WrittenPairs) (base : Presentation)
@@ -93,11 +94,6 @@ renaming_faulty done name at pairs base f is found =
     ap (λ (q : Presentation). renaming_fault q name pairs) (sym is) ∙ found
 
 -- ---- Actualisation.
-
--- what is put together
-abbrev pub put_together : PlacedName → Presentation → Presentation → List ℕ → WrittenPairs → Actualising
-put_together at base actual name pairs =
-    record { base = record { at = at; presentation = base }; actual = actual; pairs = pairs; type_name = name }
 
 -- the base is the one that is mentioned, and something is formal in it
 pub record IsFormalBase (done : List Mentioned) (at : PlacedName) (base : Presentation) : Type 0 where

@@ -22,10 +22,11 @@ use Rattle.type_presentations.specs.PresentationView.{IsSound, IsWithinLimits, p
 use Rattle.type_presentations.specs.declared.presentations.Presentation.{Presentation as CodePresentation}
 use Rattle.type_unions.specs.UnionMade.{IsUnited, IsUnionFault}
 use Rattle.type_declarations.specs.DeclarationMade.{IsDeclarationMade, IsDeclarationFault}
-use Rattle.type_renaming.specs.Renamed.{IsRenamed, IsRenamingFault}
 use Rattle.type_actualisation.specs.Actualised.{IsActualised}
+use Rattle.type_actualisation.specs.HandedOn.{IsRenamed, IsRenamingFault}
+use Rattle.type_actualisation.proofs.OneFormalLemmas.{put_together}
 use Rattle.type_flatten.specs.FlatView.{IsPresented, IsFirstTypeFault}
-use Rattle.type_flatten.proofs.OneTypeLemmas.{AreImported, AreDeclared, IsFormalBase, put_together, extension_made, imports_faulty, declarations_faulty, equations_faulty, renaming_made, renaming_faulty, base_not_formal, actuals_faulty, actualisation_made, actualisation_faulty}
+use Rattle.type_flatten.proofs.OneTypeLemmas.{AreImported, AreDeclared, IsFormalBase, extension_made, imports_faulty, declarations_faulty, equations_faulty, renaming_made, renaming_faulty, base_not_formal, actuals_faulty, actualisation_made, actualisation_faulty}
 
 -- ---- Extension.
 

@@ -1,17 +1,21 @@
 -- Refusals of written terms and their causes.
 use Rattle.std.proofs.Common.{◌≡◌, ◌↔◌, inl, inr, ℕ, Bool, true, false, ◌&&◌, ◌||◌, if◌then◌else◌, List, [], ◌∷◌, ◌++◌, map, Some, refl, ap, sym, ◌∙◌, subst, slice_get, append_assoc, append-nil}
+use Rattle.std.proofs.lemmas.Bool.{and_from, and_parts}
+use Rattle.std.proofs.lemmas.Map.Keys.{any_passes_from_place}
 use Rattle.lotos_base.specs.Equation.{Place, Variable}
 use Rattle.lotos_base.specs.Names.{AreOneName}
 use Rattle.lotos_base.specs.Signature.{Signature, Sort, Operation, Form, prefix_form, infix_form}
 use Rattle.lotos_base.specs.Twins.{form_eq}
 use Rattle.lotos_base.specs.WrittenTerm.{PlacedName, WrittenHead, WrittenTerm, WrittenTerms, written, no_written, written_then, written_head}
+use Rattle.lotos_base.proofs.SignatureLemmas.{Decides-form_eq}
+use Rattle.lotos_base.proofs.Tests.{list_any-at}
 use Rattle.sort_terms.specs.Counting.{IsOnly}
-use Rattle.sort_terms.specs.ReadingOutcome.{ReadingRefusal, unknown_name, unknown_sort, no_reading, two_readings, one_name, is_operation_name, is_variable_name, is_known, is_sort_name, unknown_at, unknown_sorts, together, in_text_order, unknown_in, unknown_in_each, answered, refused, ComesTo, IsReading, IsPairReading}
+use Rattle.sort_terms.specs.ReadingOutcome.{ReadingRefusal, unknown_name, unknown_sort, no_reading, two_readings, one_name, is_operation_name, is_variable_name, is_known, is_sort_name, unknown_at, unknown_sorts, refusals_together, in_text_order, unknown_in, unknown_in_each, answered, refused, ComesTo, IsReading, IsPairReading}
 use Rattle.type_flatten.specs.FirstCause.{IsNowhere, FirstAlong, at_once, further_on, stays}
 use Rattle.type_flatten.specs.FaultCauses.{NamesNoSort}
 use Rattle.type_flatten.specs.ReadingCauses.{RefusalCause, WrittenPart, name_at, sort_at, all_parts, parts_around, parts_of, parts_of_each, StandsForNothing, PartIsUnknown, QuestionBrings}
 use Rattle.type_flatten.specs.ReadingCauseLaws.{ReadingsAreRefusedWhereCaused}
-use Rattle.type_flatten.proofs.CauseLemmas.{Decides, any_from, any_to, names_decided, forms_same, both_true, and_true}
+use Rattle.type_flatten.proofs.CauseLemmas.{Decides, names_decided}
 use Rattle.type_flatten.proofs.ReadingChoices.{IsCounted, term_counted, pair_counted}
 
 -- ---- A name that stands for nothing
@@ -20,9 +24,9 @@ module _ (signature : Signature) (scope : List Variable) where
   variable_known : (name : List ℕ)
       → Decides (is_variable_name scope name) ((i : ℕ) × (v : Variable) × (slice_get scope i ≡ Some v) × AreOneName v.name name)
   variable_known name = (
-    λ e. let found = any_from (λ (v : Variable). one_name v.name name) scope e in
+    λ e. let found = list_any-at (λ (v : Variable). one_name v.name name) scope e in
         (found.0, found.1, found.2, (names_decided found.1.name name).0 found.3),
-    λ is. any_to (λ (v : Variable). one_name v.name name) scope is.0 is.1 is.2 ((names_decided is.1.name name).1 is.3),
+    λ is. any_passes_from_place (λ (v : Variable). one_name v.name name) scope is.0 is.1 is.2 ((names_decided is.1.name name).1 is.3),
   )
 
   record IsOperation (head : WrittenHead) : Type 0 where
@@ -35,26 +39,27 @@ module _ (signature : Signature) (scope : List Variable) where
   operation_known : (head : WrittenHead) → Decides (is_operation_name signature head.name head.form) (IsOperation head)
   operation_known head = (
     λ e.
-        let found = any_from (λ (o : Operation). one_name o.name head.name && form_eq o.form head.form) signature.operations e in
-        let parts = both_true (one_name found.1.name head.name) (form_eq found.1.form head.form) found.3 in
+        let found = list_any-at (λ (o : Operation). one_name o.name head.name && form_eq o.form head.form) signature.operations e in
+        let parts = and_parts (one_name found.1.name head.name) (form_eq found.1.form head.form) found.3 in
         record {
           i = found.0;
           operation = found.1;
           there = found.2;
           named = (names_decided found.1.name head.name).0 parts.0;
-          formed = (forms_same found.1.form head.form).0 parts.1;
+          formed = (Decides-form_eq found.1.form head.form).0 parts.1;
         },
     λ is.
-        any_to (λ (o : Operation). one_name o.name head.name && form_eq o.form head.form) signature.operations is.i is.operation is.there
-        (and_true (one_name is.operation.name head.name) (form_eq is.operation.form head.form)
-        ((names_decided is.operation.name head.name).1 is.named) ((forms_same is.operation.form head.form).1 is.formed)),
+        any_passes_from_place (λ (o : Operation). one_name o.name head.name && form_eq o.form head.form)
+        signature.operations is.i is.operation is.there
+        (and_from (one_name is.operation.name head.name) (form_eq is.operation.form head.form)
+        ((names_decided is.operation.name head.name).1 is.named) ((Decides-form_eq is.operation.form head.form).1 is.formed)),
   )
 
   nothing_from : (head : WrittenHead) → is_known signature scope head ≡ false → StandsForNothing signature scope head
   nothing_from head e = record {
     no_variable = λ form i v at named.
         let known : (form_eq head.form prefix_form && is_variable_name scope head.name) ≡ true =
-        and_true (form_eq head.form prefix_form) (is_variable_name scope head.name) ((forms_same head.form prefix_form).1 form)
+        and_from (form_eq head.form prefix_form) (is_variable_name scope head.name) ((Decides-form_eq head.form prefix_form).1 form)
         ((variable_known head.name).1 (i, v, at, named)) in
         neither_one known;
     no_operation = λ i operation there named formed.
@@ -90,9 +95,9 @@ module _ (signature : Signature) (scope : List Variable) where
       by : (a : Bool) → (form_eq head.form prefix_form && is_variable_name scope head.name) ≡ a → (b : Bool)
           → is_operation_name signature head.name head.form ≡ b → (a || b) ≡ true → ⊥
       by true is b also e =
-          let parts = both_true (form_eq head.form prefix_form) (is_variable_name scope head.name) is in
+          let parts = and_parts (form_eq head.form prefix_form) (is_variable_name scope head.name) is in
           let found = (variable_known head.name).0 parts.1 in
-          none.no_variable ((forms_same head.form prefix_form).0 parts.0) found.0 found.1 found.2 found.3
+          none.no_variable ((Decides-form_eq head.form prefix_form).0 parts.0) found.0 found.1 found.2 found.3
       by false is true also e =
           let found = (operation_known head).0 also in
           none.no_operation found.i found.operation found.there found.named found.formed
@@ -120,7 +125,7 @@ module _ (signature : Signature) (scope : List Variable) where
     where
       none : is_sort_name signature asked.name ≡ true → NamesNoSort signature asked.name → ⊥
       none e is =
-          let found = any_from (λ (s : Sort). one_name s.name asked.name) signature.sorts e in
+          let found = list_any-at (λ (s : Sort). one_name s.name asked.name) signature.sorts e in
           is found.0 found.1 found.2 ((names_decided found.1.name asked.name).0 found.3)
 
       turned : (test : Bool) → test ≡ false → (if test then false else true) ≡ true
@@ -135,7 +140,7 @@ module _ (signature : Signature) (scope : List Variable) where
             refl,
             λ i sort at named.
                 let known : is_sort_name signature asked.name ≡ true =
-                any_to (λ (s : Sort). one_name s.name asked.name) signature.sorts i sort at
+                any_passes_from_place (λ (s : Sort). one_name s.name asked.name) signature.sorts i sort at
                 ((names_decided sort.name asked.name).1 named) in
                 let never : true ≡ false = sym known ∙ e in absurd (cc never),
           )
@@ -163,13 +168,13 @@ module _ (signature : Signature) (scope : List Variable) where
   Agree (refusals ∷ others) (parts ∷ more) = (refusals ≡ over parts) × Agree others more
 
   over_all : (refusals : List (List ReadingRefusal)) (parts : List (List WrittenPart)) → Agree refusals parts
-      → together refusals ≡ over (all_parts parts)
+      → refusals_together refusals ≡ over (all_parts parts)
   over_all [] [] agree = refl
   over_all [] (parts ∷ more) agree = absurd agree
   over_all (refusals ∷ others) [] agree = absurd agree
   over_all (refusals ∷ others) (parts ∷ more) agree =
       let first : refusals ≡ over parts = agree.0 in
-      let rest : together others ≡ over (all_parts more) = over_all others more agree.1 in
+      let rest : refusals_together others ≡ over (all_parts more) = over_all others more agree.1 in
       (λ i. first i ++ rest i) ∙ sym (over_joined parts (all_parts more))
 
   over_around : (form : Form) (part : WrittenPart) (refusals : List (List ReadingRefusal)) (parts : List (List WrittenPart))
@@ -181,8 +186,8 @@ module _ (signature : Signature) (scope : List Variable) where
   over_around infix_form part (refusals ∷ others) [] agree = absurd agree
   over_around infix_form part (refusals ∷ others) (parts ∷ more) agree =
       let first : refusals ++ [] ≡ over parts = append-nil refusals ∙ agree.0 in
-      let rest : together others ≡ over (all_parts more) = over_all others more agree.1 in
-      append_assoc (refusals ++ []) (part_refusal part) (together others)
+      let rest : refusals_together others ≡ over (all_parts more) = over_all others more agree.1 in
+      append_assoc (refusals ++ []) (part_refusal part) (refusals_together others)
       ∙ (λ i. first i ++ (part_refusal part ++ rest i))
       ∙ sym (over_joined parts (part ∷ all_parts more))
 

@@ -7,7 +7,7 @@ use Rattle.sort_terms.specs.WellFormedTest.{are_one_sort, are_one_operation}
 use Rattle.syntax_trees.specs.WrittenItem.{WrittenPair}
 use Rattle.type_definitions.specs.TypeFault.{TypeFault, double_sort, double_operation, first_fault, fault_along}
 use Rattle.type_definitions.specs.Renaming.{pair_for, renamed_sort, renamed_operation, clash_at, clash_with, clash_among}
-use Rattle.type_flatten.specs.FaultCauses.{FirstAlong, AreOneSort, AreOneOperation}
+use Rattle.type_flatten.specs.FaultCauses.{FirstAlong, AreOneSort, AreAlikeOperations}
 use Rattle.type_flatten.specs.FirstCause.{and_also}
 use Rattle.type_flatten.specs.RenamingCauses.{FaultStandsAt, Coincides}
 use Rattle.type_flatten.specs.RenamingCauseLaws.{RenamingsAreFaultyWhereCaused}
@@ -116,6 +116,6 @@ renamings_faulty base type_name pairs =
     (λ (one : Operation) (other : Operation).
     are_one_operation (renamed_operation type_name pairs one) (renamed_operation type_name pairs other))
     (λ (one : Operation) (other : Operation).
-    AreOneOperation (renamed_operation type_name pairs one) (renamed_operation type_name pairs other))
+    AreAlikeOperations (renamed_operation type_name pairs one) (renamed_operation type_name pairs other))
     (λ one other. operations_decided (renamed_operation type_name pairs one) (renamed_operation type_name pairs other))
     (λ (operation : Operation). pair_for pairs.operation_pairs operation.name) double_operation [] base.signature.operations)))

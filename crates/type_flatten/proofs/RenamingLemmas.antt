@@ -8,7 +8,7 @@ use Rattle.std.proofs.lemmas.Option.{none-some, same_Some, slice_get_within, sli
 use Rattle.std.proofs.lemmas.Slice.Eq.{bytes_eq-Decides}
 use Rattle.std.specs.Str.{bytes_eq}
 use Rattle.std.specs.Prelude.{◌&&◌, nat_eq}
-use Rattle.lotos_base.proofs.Members.{at_front, at_end}
+use Rattle.lotos_base.proofs.Members.{at_front, at_end, from_front}
 use Rattle.lotos_base.specs.Names.{folded}
 use Rattle.lotos_base.specs.Signature.{Sort, Operation, IsSort, IsOperation, IsWellFormedSignature}
 use Rattle.lotos_base.specs.Twins.{form_eq}
@@ -23,8 +23,8 @@ use Rattle.type_definitions.specs.ProfiledImage.{profile_in}
 use Rattle.type_definitions.specs.ImageLaws.{IsSignatureMap}
 use Rattle.type_definitions.specs.TypeFault.{TypeFault, double_sort, double_operation, first_fault}
 use Rattle.type_definitions.specs.Presentation.{Presentation}
-use Rattle.type_definitions.specs.Renaming.{pair_for, operation_under, renamed_sort, renamed_operation, renaming, renaming_fault, clash_at, clash_with, clash_among, renamed_sort_clash, renamed_operation_clash, sort_pairs_fault, operation_pairs_fault}
-use Rattle.type_definitions.specs.Flattened.{data_of}
+use Rattle.type_definitions.specs.Renaming.{pair_for, operation_under, renamed_sort, renamed_operation, renamed_presentation, renaming_fault, clash_at, clash_with, clash_among, renamed_sort_clash, renamed_operation_clash, sort_pairs_fault, operation_pairs_fault}
+use Rattle.type_definitions.specs.Flattened.{flattened_data_of}
 use Rattle.type_definitions.proofs.RenamingLemmas.{unpaired_sort, unpaired_operation}
 use Rattle.type_presentations.proofs.EquationImageLemmas.{image_over, identity_image}
 use Rattle.type_flatten.specs.ImagesOfRenamings.{RenamingsAreImages}
@@ -70,12 +70,6 @@ none_like {A = A} same pair_of kind (z ∷ ys) x h apart i y found alike =
         let e : true ≡ false = sym alike ∙ ap (λ (w : A). same w x) (sym (same_Some _ _ f)) ∙ is in cc
     go false is (suc j) f none later = later none j f
 
--- a member that stands before another one stands in front
-stands_in_front : {A : Type 0} (xs ys : List A) (i : ℕ) (x : A) → i < length xs → slice_get (xs ++ ys) i ≡ Some x → slice_get xs i ≡ Some x
-stands_in_front [] ys i x within found = absurd (omega (arith, within))
-stands_in_front (z ∷ xs) ys zero x within found = found
-stands_in_front (z ∷ xs) ys (suc i) x within found = stands_in_front xs ys i x (omega (arith, within)) found
-
 none_clash : {A : Type 0} (same : A → A → Bool) (pair_of : A → Option WrittenPair) (kind : Place → List ℕ → TypeFault)
     (earlier xs : List A) → clash_among same pair_of kind earlier xs ≡ None → AreApartUnpaired same pair_of (earlier ++ xs)
     → (i j : ℕ) (x y : A) → slice_get (earlier ++ xs) i ≡ Some x → slice_get (earlier ++ xs) j ≡ Some y → i < j
@@ -103,7 +97,7 @@ none_clash {A = A} same pair_of kind earlier (z ∷ zs) h apart i j x y at there
           let e : k ≡ length earlier =
           apart k (length earlier) w z (at_front earlier (z ∷ zs) k w found) (at_end earlier z zs) like other none in
           absurd (omega (arith, within, e)))
-          i x (stands_in_front earlier (z ∷ zs) i x (omega (arith, below, here)) at)
+          i x (from_front earlier (z ∷ zs) i x (omega (arith, below, here)) at)
           (ap (λ (w : A). same x w) this ∙ alike))
     ]
 
@@ -207,28 +201,28 @@ profile_stays name None o = (refl, refl)
 profile_stays name (Some pair) o = (refl, refl)
 
 sort_stays : (base : Presentation) (name : List ℕ) (pairs : WrittenPairs) (n : ℕ) → IsSort base.signature n
-    → IsSort (renaming base name pairs).signature n
+    → IsSort (renamed_presentation base name pairs).signature n
 sort_stays base name pairs n known =
-    let as_many : length (renaming base name pairs).signature.sorts ≡ length base.signature.sorts =
+    let as_many : length (renamed_presentation base name pairs).signature.sorts ≡ length base.signature.sorts =
     length-map base.signature.sorts (renamed_sort name pairs) in
     omega (arith, known, as_many)
 
 operation_there : (base : Presentation) (name : List ℕ) (pairs : WrittenPairs) (f : ℕ) (o : Operation) → IsOperation base.signature f o
-    → IsOperation (renaming base name pairs).signature f (renamed_operation name pairs o)
+    → IsOperation (renamed_presentation base name pairs).signature f (renamed_operation name pairs o)
 operation_there base name pairs f o found =
     slice_get-map (renamed_operation name pairs) base.signature.operations f
     ∙ ap (λ (x : Option Operation). option_map (renamed_operation name pairs) x) found
 
 numbers_stay : (base : Presentation) (name : List ℕ) (pairs : WrittenPairs)
-    → IsSignatureMap base.signature (renaming base name pairs).signature (λ n. n) (λ n. n)
+    → IsSignatureMap base.signature (renamed_presentation base name pairs).signature (λ n. n) (λ n. n)
 numbers_stay base name pairs = record {
   sorts = λ s known. sort_stays base name pairs s known;
   operations = λ f o found.
-      slice_get_within (renaming base name pairs).signature.operations f (renamed_operation name pairs o)
+      slice_get_within (renamed_presentation base name pairs).signature.operations f (renamed_operation name pairs o)
       (operation_there base name pairs f o found);
   profiles = λ f o found.
-      let is : profile_in (renaming base name pairs).signature.operations f o ≡ renamed_operation name pairs o =
-      get_or_from_slice_get (renaming base name pairs).signature.operations f (renamed_operation name pairs o) o
+      let is : profile_in (renamed_presentation base name pairs).signature.operations f o ≡ renamed_operation name pairs o =
+      get_or_from_slice_get (renamed_presentation base name pairs).signature.operations f (renamed_operation name pairs o) o
       (operation_there base name pairs f o found) in
       let kept = profile_stays name (pair_for pairs.operation_pairs o.name) o in (
         ap (λ (u : Operation). u.arguments) is ∙ kept.0 ∙ sym (map-id o.arguments),
@@ -237,12 +231,12 @@ numbers_stay base name pairs = record {
 }
 
 signature_fine : (base : Presentation) (name : List ℕ) (pairs : WrittenPairs) → IsWellFormedSignature base.signature
-    → renaming_fault base name pairs ≡ None → IsWellFormedSignature (renaming base name pairs).signature
+    → renaming_fault base name pairs ≡ None → IsWellFormedSignature (renamed_presentation base name pairs).signature
 signature_fine base name pairs fine none = record {
   results = λ f o at.
       let old = before (renamed_operation name pairs) base.signature.operations f o at in
       let kept = profile_stays name (pair_for pairs.operation_pairs old.0.name) old.0 in
-      subst (λ (n : ℕ). IsSort (renaming base name pairs).signature n)
+      subst (λ (n : ℕ). IsSort (renamed_presentation base name pairs).signature n)
       (sym kept.1 ∙ ap (λ (u : Operation). u.result) old.2)
       (sort_stays base name pairs old.0.result (fine.results f old.0 old.1));
   arguments = λ f i s o at there.
@@ -268,13 +262,13 @@ signature_fine base name pairs fine none = record {
       (alike_operations (renamed_operation name pairs one.0) (renamed_operation name pairs other.0) images);
 }
 
-data_fine : (base : Presentation) (name : List ℕ) (pairs : WrittenPairs) → IsWellFormedData (data_of base)
-    → renaming_fault base name pairs ≡ None → IsWellFormedData (data_of (renaming base name pairs))
+data_fine : (base : Presentation) (name : List ℕ) (pairs : WrittenPairs) → IsWellFormedData (flattened_data_of base)
+    → renaming_fault base name pairs ≡ None → IsWellFormedData (flattened_data_of (renamed_presentation base name pairs))
 data_fine base name pairs fine none = record {
   signature = signature_fine base name pairs fine.signature none;
   equations = λ e at.
-      subst (λ (x : Equation). IsEquationOver (renaming base name pairs).signature x) (identity_image e)
-      (image_over base.signature (renaming base name pairs).signature (λ n. n) (λ n. n) e (numbers_stay base name pairs)
+      subst (λ (x : Equation). IsEquationOver (renamed_presentation base name pairs).signature x) (identity_image e)
+      (image_over base.signature (renamed_presentation base name pairs).signature (λ n. n) (λ n. n) e (numbers_stay base name pairs)
       (fine.equations e at));
 }
 

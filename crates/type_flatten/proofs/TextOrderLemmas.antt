@@ -4,7 +4,7 @@ use Rattle.std.specs.Prelude.{nat_eq, nat_lt}
 use Rattle.std.proofs.lemmas.Bool.{eq-eqb, ltb-true, ltb-false, both_ways, or_left, or_right}
 use Rattle.std.proofs.lemmas.Option.{same_Some}
 use Rattle.type_definitions.specs.TypeGraph.{is_among, mentioned_by, Mentions, MentionsLead, leads_at_once, leads_on, IsWithin, IsAcyclic}
-use Rattle.type_definitions.specs.FlatteningOrder.{ComesTo, flattened_already, flattened_now, ComesToEach, none_left, next_come_to, numbers_from, IsFlatteningOrder}
+use Rattle.type_definitions.specs.FlatteningOrder.{FlatteningComesTo, flattened_already, flattened_now, ComesToEach, none_left, next_come_to, counted_from, IsFlatteningOrder}
 use Rattle.type_definitions.specs.Walking.{IsSorted, none_sorted, one_sorted}
 use Rattle.type_definitions.proofs.NumberLists.{not_true, among_at, at_among, among_none, among_left, among_cases, among_one}
 use Rattle.type_definitions.specs.DeclaredTypes.{mention_graph}
@@ -31,7 +31,7 @@ module _ (graph : List (List ℕ)) where
       by (inr other) below = below other
 
   mutual
-    sorted_one : (done : List ℕ) (i : ℕ) (all : List ℕ) → ComesTo graph done i all → IsSorted graph done → IsSorted graph all
+    sorted_one : (done : List ℕ) (i : ℕ) (all : List ℕ) → FlatteningComesTo graph done i all → IsSorted graph done → IsSorted graph all
     sorted_one done i all (flattened_already _ _ is) sorted = sorted
     sorted_one done i _ (flattened_now _ more _ new each) sorted =
         one_sorted more i (sorted_each done (mentioned_by graph i) more each sorted)
@@ -42,18 +42,18 @@ module _ (graph : List (List ℕ)) where
     sorted_each done _ all (next_come_to _ more _ i rest now later) sorted =
         sorted_each more rest all later (sorted_one done i more now sorted)
 
-  numbers_in : (first count i : ℕ) → first ≤ i → i < first + count → IsIn (numbers_from first count) i
+  numbers_in : (first count i : ℕ) → first ≤ i → i < first + count → IsIn (counted_from first count) i
   numbers_in first zero i low high = absurd (omega (arith, low, high))
   numbers_in first (suc count) i low high = by (nat_lt first i) refl (λ above. numbers_in (suc first) count i above (omega (arith, high)))
     where
-      by : (later : Bool) → nat_lt first i ≡ later → (suc first ≤ i → IsIn (numbers_from (suc first) count) i)
-          → IsIn (first ∷ numbers_from (suc first) count) i
+      by : (later : Bool) → nat_lt first i ≡ later → (suc first ≤ i → IsIn (counted_from (suc first) count) i)
+          → IsIn (first ∷ counted_from (suc first) count) i
       by true later more =
-          or_right (nat_eq i first) (is_among (numbers_from (suc first) count) i)
+          or_right (nat_eq i first) (is_among (counted_from (suc first) count) i)
           (more (let less = ltb-true first i later in omega (arith, less)))
       by false other more =
           let same : i ≡ first = (let most = ltb-false first i other in omega (arith, most, low)) in
-          or_left (nat_eq i first) (is_among (numbers_from (suc first) count) i) (eq-eqb i first same)
+          or_left (nat_eq i first) (is_among (counted_from (suc first) count) i) (eq-eqb i first same)
 
   -- ---- Why each type stands where it does
 
@@ -74,7 +74,7 @@ module _ (graph : List (List ℕ)) where
   From i j = (i ≡ j) ⊎ MentionsLead graph i j
 
   mutual
-    grown_one : (done : List ℕ) (i : ℕ) (all : List ℕ) (j : ℕ) → ComesTo graph done i all → IsIn all j → IsIn done j ⊎ From i j
+    grown_one : (done : List ℕ) (i : ℕ) (all : List ℕ) (j : ℕ) → FlatteningComesTo graph done i all → IsIn all j → IsIn done j ⊎ From i j
     grown_one done i all j (flattened_already _ _ is) h = inl h
     grown_one done i _ j (flattened_now _ more _ new each) h =
         by (among_cases more (i ∷ []) j h) (grown_each done (mentioned_by graph i) more j each)
@@ -126,7 +126,7 @@ module _ (graph : List (List ℕ)) where
         by (inr (n, m, from)) = acyclic i n m from
 
     mutual
-      build_one : (root : ℕ) (done : List ℕ) (i : ℕ) (all : List ℕ) → ComesTo graph done i all
+      build_one : (root : ℕ) (done : List ℕ) (i : ℕ) (all : List ℕ) → FlatteningComesTo graph done i all
           → ((m : ℕ) → m < root → IsIn done m) → (root ≡ i) ⊎ MentionsLead graph root i → i < length graph → IsBuilt done → IsBuilt all
       build_one root done i all (flattened_already _ _ is) before leads inside built = built
       build_one root done i _ (flattened_now _ more _ new each) before leads inside built =
@@ -151,7 +151,7 @@ module _ (graph : List (List ℕ)) where
           (build_one root done i more now before (inr (leads i here)) (inside i here) built)
 
     -- all types in the order of the text
-    build_all : (count first : ℕ) (done all : List ℕ) → ComesToEach graph done (numbers_from first count) all
+    build_all : (count first : ℕ) (done all : List ℕ) → ComesToEach graph done (counted_from first count) all
         → first + count ≤ length graph → ((m : ℕ) → m < first → IsIn done m) → IsBuilt done → IsBuilt all
     build_all zero first done all (none_left _) room before built = built
     build_all (suc count) first done all (next_come_to _ more _ _ _ now later) room before built =
@@ -269,9 +269,9 @@ module _ (graph : List (List ℕ)) where
 
 follows : (graph : List (List ℕ)) (order : List ℕ) → IsWithin graph → IsFlatteningOrder graph order → IsOrderOfText graph order
 follows graph order within ordered =
-    let sorted : IsSorted graph order = sorted_each graph [] (numbers_from 0 (length graph)) order ordered none_sorted in
+    let sorted : IsSorted graph order = sorted_each graph [] (counted_from 0 (length graph)) order ordered none_sorted in
     let all : (i : ℕ) → i < length graph → IsIn order i = (λ i less.
-    each_in graph [] (numbers_from 0 (length graph)) order i ordered
+    each_in graph [] (counted_from 0 (length graph)) order i ordered
     (numbers_in graph 0 (length graph) i (omega arith) (omega (arith, less)))) in
     let acyclic : IsAcyclic graph = no_cycle graph order sorted all in
     let built = build_all graph acyclic within (length graph) 0 [] order ordered (omega arith) (λ m less. absurd (omega (arith, less)))

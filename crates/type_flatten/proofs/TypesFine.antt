@@ -12,7 +12,7 @@ use Rattle.type_definitions.specs.Presentation.{Presentation}
 use Rattle.type_definitions.specs.Union.{Mentioned, union_of, union_fault}
 use Rattle.type_definitions.specs.Declarations.{declaration_fault}
 use Rattle.type_definitions.specs.Extension.{extended, IsExtension}
-use Rattle.type_definitions.specs.Renaming.{renaming, renaming_fault}
+use Rattle.type_definitions.specs.Renaming.{renamed_presentation, renaming_fault}
 use Rattle.type_definitions.specs.Actualisation.{actualisation, is_formal}
 use Rattle.type_definitions.specs.ActualisationFaults.{actualising_of, actualising_fault, actualisation_fault}
 use Rattle.type_definitions.specs.Flattened.{presentation_named, mention_of, mentions_with, IsPresentation, ArePresented, all_presented, next_presented, declared_with, without_formals, types_at, IsFlattening}
@@ -53,7 +53,7 @@ extension_fine imports name sections p fine is =
     (declarations_fine name (union_of imports) sections (unions_fine imports fine parts.0) parts.1) is.1
 
 renaming_fine : (base p : Presentation) (name : List ℕ) (pairs : WrittenPairs) → IsFine base → renaming_fault base name pairs ≡ None
-    → renaming base name pairs ≡ p → IsFine p
+    → renamed_presentation base name pairs ≡ p → IsFine p
 renaming_fine base p name pairs fine none is = subst (λ (x : Presentation). IsFine x) is (renamings.well_formed base name pairs fine none)
 
 actual_fine : (base : Mentioned) (actuals : List Mentioned) (name : List ℕ) (pairs : WrittenPairs) (p : Presentation)

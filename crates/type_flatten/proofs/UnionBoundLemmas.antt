@@ -3,8 +3,8 @@ use Rattle.std.proofs.Common.{◌≡◌, true, List, [], ◌∷◌, ◌++◌, �
 use Rattle.std.proofs.lemmas.Option.{none-some}
 use Rattle.std.proofs.lemmas.List.Sums.{fold-append}
 use Rattle.type_definitions.proofs.NumberLists.{among_none}
-use Rattle.type_definitions.specs.Presentation.{Presentation, nothing, is_marked}
-use Rattle.type_definitions.specs.Union.{Mentioned, with_mentioned, union_of, joined, joined_sort, joined_operation, coming_operations}
+use Rattle.type_definitions.specs.Presentation.{Presentation, nothing, is_marked_number}
+use Rattle.type_definitions.specs.Union.{Mentioned, with_mentioned, union_of, joined_presentation, joined_sort, joined_operation, coming_operations}
 use Rattle.type_definitions.specs.UnionLaws.{IsIn}
 use Rattle.type_definitions.proofs.WithNewLemmas.{first_appearances, unions}
 use Rattle.type_flatten.specs.Containment.{StaysIn, LiesIn}
@@ -17,8 +17,9 @@ use Rattle.type_flatten.proofs.OneToOneLemmas.{stays_one_to_one}
 stays_through : (p : Presentation) (ms : List Mentioned) → StaysIn p (fold with_mentioned p ms)
 stays_through p [] = stays_itself p
 stays_through p (m ∷ ms) =
-    stays_further p (joined p m.presentation) (fold with_mentioned (joined p m.presentation) ms) (first_stays p m.presentation)
-    (stays_through (joined p m.presentation) ms)
+    stays_further p (joined_presentation p m.presentation) (fold with_mentioned (joined_presentation p m.presentation) ms)
+    (first_stays p m.presentation)
+    (stays_through (joined_presentation p m.presentation) ms)
 
 together : (one more : List Mentioned) → union_of (one ++ more) ≡ fold with_mentioned (union_of one) more
 together one more = fold-append with_mentioned nothing one more
@@ -30,7 +31,7 @@ first_stay all later =
 each_lies : (before : List Mentioned) (m : Mentioned) (all : List Mentioned) → IsBehind before m all
     → LiesIn (sort_behind before m) (operation_behind before m) m.presentation (union_of all)
 each_lies before m all behind =
-    let now : Presentation = joined (union_of before) m.presentation in
+    let now : Presentation = joined_presentation (union_of before) m.presentation in
     subst (λ (p : Presentation). LiesIn (sort_behind before m) (operation_behind before m) m.presentation p)
     (sym (ap (λ (ms : List Mentioned). union_of ms) behind.listed ∙ together before (m ∷ behind.later)))
     (lies_further (sort_behind before m) (operation_behind before m) m.presentation now (fold with_mentioned now behind.later)
@@ -44,12 +45,12 @@ IsBrought brings all = (before : List Mentioned) × (m : Mentioned) × IsBehind 
 
 -- what is so of a union is so of what is there first, or is brought
 only_brought : (holds : Presentation → Type 0) (brings : Presentation → Presentation → Type 0)
-    → ((p q : Presentation) → holds (joined p q) → holds p ⊎ brings p q) → (before ms : List Mentioned)
+    → ((p q : Presentation) → holds (joined_presentation p q) → holds p ⊎ brings p q) → (before ms : List Mentioned)
     → holds (fold with_mentioned (union_of before) ms) → holds (union_of before) ⊎ IsBrought brings (before ++ ms)
 only_brought holds brings step before [] h = inl h
 only_brought holds brings step before (m ∷ ms) h =
     let next : List Mentioned = before ++ m ∷ [] in
-    let is : union_of next ≡ joined (union_of before) m.presentation = together before (m ∷ []) in
+    let is : union_of next ≡ joined_presentation (union_of before) m.presentation = together before (m ∷ []) in
     let same : next ++ ms ≡ before ++ m ∷ ms = append_assoc before (m ∷ []) ms in
     elim (only_brought holds brings step next ms (subst (λ (p : Presentation). holds (fold with_mentioned p ms)) (sym is) h)) [
       | inl there ↦
@@ -61,7 +62,7 @@ only_brought holds brings step before (m ∷ ms) h =
     ]
 
 brought : (holds : Presentation → Type 0) (brings : Presentation → Presentation → Type 0)
-    → ((p q : Presentation) → holds (joined p q) → holds p ⊎ brings p q) → (holds nothing → ⊥) → (all : List Mentioned)
+    → ((p q : Presentation) → holds (joined_presentation p q) → holds p ⊎ brings p q) → (holds nothing → ⊥) → (all : List Mentioned)
     → holds (union_of all) → IsBrought brings all
 brought holds brings step none all h =
     elim (only_brought holds brings step [] all h) [ inl there ↦ absurd (none there) | inr is ↦ is ]
@@ -84,11 +85,11 @@ union_bounds = record {
       brought (λ (p : Presentation). IsIn p.equations e) (λ (p q : Presentation). IsIn (coming_equations p q) e)
       (λ p q h. first_appearances.equations.adds_nothing p.equations (coming_equations p q) e h) (nothing_in e) all at;
   no_other_formal_sorts = λ all n h.
-      brought (λ (p : Presentation). is_marked p.formal_sorts n ≡ true)
-      (λ (p q : Presentation). is_marked (map (joined_sort p q) q.formal_sorts) n ≡ true)
+      brought (λ (p : Presentation). is_marked_number p.formal_sorts n ≡ true)
+      (λ (p q : Presentation). is_marked_number (map (joined_sort p q) q.formal_sorts) n ≡ true)
       (λ p q is. no_other_marks p.formal_sorts (map (joined_sort p q) q.formal_sorts) n is) (among_none n) all h;
   no_other_formal_operations = λ all n h.
-      brought (λ (p : Presentation). is_marked p.formal_operations n ≡ true)
-      (λ (p q : Presentation). is_marked (map (joined_operation p q) q.formal_operations) n ≡ true)
+      brought (λ (p : Presentation). is_marked_number p.formal_operations n ≡ true)
+      (λ (p q : Presentation). is_marked_number (map (joined_operation p q) q.formal_operations) n ≡ true)
       (λ p q is. no_other_marks p.formal_operations (map (joined_operation p q) q.formal_operations) n is) (among_none n) all h;
 }

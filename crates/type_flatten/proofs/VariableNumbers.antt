@@ -1,61 +1,20 @@
 -- Variables of an equation are numbered by first appearance.
-use Rattle.std.proofs.Common.{◌≡◌, ◌⊎◌, ◌||◌, inl, inr, ℕ, zero, suc, ◌<◌, Bool, true, false, nat_eq, if◌then◌else◌, List, [], ◌∷◌, ◌++◌, map, length, slice_get, Some, refl, ap, sym, ◌∙◌, subst, arith, append_assoc, length-append}
+use Rattle.std.proofs.Common.{◌≡◌, ◌||◌, inl, inr, ℕ, suc, ◌<◌, Bool, true, false, nat_eq, if◌then◌else◌, List, [], ◌∷◌, ◌++◌, map, length, slice_get, refl, ap, sym, ◌∙◌, subst, arith, append_assoc, length-append}
 use Rattle.std.proofs.lemmas.Option.{same_Some}
 use Rattle.std.proofs.lemmas.List.{map-append, append-nil}
 use Rattle.std.proofs.lemmas.Bool.Decides.{Decides-eqb}
-use Rattle.lotos_base.proofs.Numbers.{smaller}
 use Rattle.lotos_base.specs.Term.{Term, variable, node, Terms, no_terms, term_then}
 use Rattle.lotos_base.specs.Substitution.{substituted, all_substituted, renaming}
 use Rattle.rewriting_theory.specs.Numbering.{IsByAppearance}
 use Rattle.rewriting_theory.specs.Numbering as theory
 use Rattle.rewriting_theory.specs.Unification.{OccursInEither}
+use Rattle.rewriting_theory.proofs.NumberLemmas.{go_on_by_appearance, GoOn}
 use Rattle.type_definitions.specs.TypeGraph.{is_among}
 use Rattle.type_definitions.specs.Presentation.{with_new, first_position}
-use Rattle.type_definitions.specs.DeclaredEquations.{variable_numbers, variable_numbers_among, appearing, renumbered, renumbered_among}
+use Rattle.type_definitions.specs.DeclaredEquations.{numbers_in_term, variable_numbers_among, appearing, renumbered, renumbered_among}
 use Rattle.type_definitions.proofs.NumberLists.{among_left, among_right}
-use Rattle.type_equations.proofs.OccurrenceLemmas.{numbers_have, stands_there, comes}
+use Rattle.type_actualisation.proofs.HandedOn.{numbers_have, stands_there, comes}
 use Rattle.type_flatten.specs.EquationVariables.{EquationsNumberByAppearance}
-
--- ---- Numbers that go on from a number
-
--- Each number is smaller than the next new one, or is it.
-abbrev GoOn : ℕ → List ℕ → Type 0
-GoOn next [] = Unit {0}
-GoOn next (n ∷ ns) = ((n < next) × GoOn next ns) ⊎ ((n ≡ next) × GoOn (suc next) ns)
-
--- A smaller number than the one at a position is smaller than the next new one, or stands before it.
-abbrev StandsBefore : ℕ → List ℕ → ℕ → ℕ → Type 0
-StandsBefore next ns i m = (m < next) ⊎ ((j : ℕ) × (j < i) × (slice_get ns j ≡ Some m))
-
-later : (next n i m : ℕ) (ns : List ℕ) → StandsBefore next ns i m → StandsBefore next (n ∷ ns) (suc i) m
-later next n i m ns (inl less) = inl less
-later next n i m ns (inr (j, less, e)) = inr (suc j, omega (arith, less), e)
-
-later_new : (next n i m : ℕ) (ns : List ℕ) → n ≡ next → StandsBefore (suc next) ns i m → StandsBefore next (n ∷ ns) (suc i) m
-later_new next n i m ns same (inr (j, less, e)) = inr (suc j, omega (arith, less), e)
-later_new next n i m ns same (inl less) = by (nat_eq n m) refl
-  where
-    by : (b : Bool) → nat_eq n m ≡ b → StandsBefore next (n ∷ ns) (suc i) m
-    by true e = inr (0, omega arith, ap (λ (k : ℕ). Some k) ((Decides-eqb n m).0 e))
-    by false e =
-        let differ : n ≡ m → ⊥ = λ is. (let other : nat_eq n m ≡ true = (Decides-eqb n m).1 is in cc) in
-        inl (smaller n m next same less differ)
-
-on_before : (ns : List ℕ) (next : ℕ) → GoOn next ns → (i n m : ℕ) → slice_get ns i ≡ Some n → m < n → StandsBefore next ns i m
-on_before [] next on i n m is less = absurd (cc is)
-on_before (k ∷ ns) next (inl (small, on)) zero n m is less =
-    let same : k ≡ n = same_Some k n is in inl (omega (arith, same, small, less))
-on_before (k ∷ ns) next (inl (small, on)) (suc i) n m is less = later next k i m ns (on_before ns next on i n m is less)
-on_before (k ∷ ns) next (inr (new, on)) zero n m is less =
-    let same : k ≡ n = same_Some k n is in inl (omega (arith, same, new, less))
-on_before (k ∷ ns) next (inr (new, on)) (suc i) n m is less = later_new next k i m ns new (on_before ns (suc next) on i n m is less)
-
-by_appearance : (ns : List ℕ) → GoOn 0 ns → IsByAppearance ns
-by_appearance ns on = λ i n m is less. by i m (on_before ns 0 on i n m is less)
-  where
-    by : (i m : ℕ) → StandsBefore 0 ns i m → (j : ℕ) × (j < i) × (slice_get ns j ≡ Some m)
-    by i m (inl less) = absurd (omega (arith, less))
-    by i m (inr before) = before
 
 -- ---- Positions in the list of first appearances
 
@@ -132,7 +91,7 @@ mutual
       ∙ ap (λ (us : Terms). term_then (substituted (renaming (λ n s. position order n)) t) us) (all_renumbered_is order ts)
 
 mutual
-  new_numbers : (order : List ℕ) (t : Term) → theory.variable_numbers (renumbered order t) ≡ map (position order) (variable_numbers t)
+  new_numbers : (order : List ℕ) (t : Term) → theory.variable_numbers (renumbered order t) ≡ map (position order) (numbers_in_term t)
   new_numbers order (variable n s) = refl
   new_numbers order (node f ts) = all_new_numbers order ts
 
@@ -141,8 +100,8 @@ mutual
   all_new_numbers order no_terms = refl
   all_new_numbers order (term_then t ts) =
       ap (λ (ns : List ℕ). ns ++ theory.all_variable_numbers (renumbered_among order ts)) (new_numbers order t)
-      ∙ (ap (λ (ns : List ℕ). map (position order) (variable_numbers t) ++ ns) (all_new_numbers order ts)
-      ∙ sym (map-append (position order) (variable_numbers t) (variable_numbers_among ts)))
+      ∙ (ap (λ (ns : List ℕ). map (position order) (numbers_in_term t) ++ ns) (all_new_numbers order ts)
+      ∙ sym (map-append (position order) (numbers_in_term t) (variable_numbers_among ts)))
 
 -- ---- The law
 
@@ -152,11 +111,11 @@ module _ (left right : Term) where
 
   there : (n r : ℕ) → OccursInEither left right n r → is_among order n ≡ true
   there n r (inl occurs) =
-      comes [] (variable_numbers left ++ variable_numbers right) n
-      (among_left (variable_numbers left) (variable_numbers right) n (numbers_have left n r occurs))
+      comes [] (numbers_in_term left ++ numbers_in_term right) n
+      (among_left (numbers_in_term left) (numbers_in_term right) n (numbers_have left n r occurs))
   there n r (inr occurs) =
-      comes [] (variable_numbers left ++ variable_numbers right) n
-      (among_right (variable_numbers left) (variable_numbers right) n (numbers_have right n r occurs))
+      comes [] (numbers_in_term left ++ numbers_in_term right) n
+      (among_right (numbers_in_term left) (numbers_in_term right) n (numbers_have right n r occurs))
 
   apart : (n m r s : ℕ) → OccursInEither left right n r → OccursInEither left right m s → position order n ≡ position order m → n ≡ m
   apart n m r s one other same =
@@ -171,16 +130,16 @@ equations_number_by_appearance place scope left right = record {
   right_is = renumbered_is (appearing left right) right;
   apart = apart left right;
   by_appearance = subst IsByAppearance (sym numbers)
-      (by_appearance (map (position (appearing left right)) (variable_numbers left ++ variable_numbers right))
-      (positions_go_on (variable_numbers left ++ variable_numbers right) []));
+      (go_on_by_appearance (map (position (appearing left right)) (numbers_in_term left ++ numbers_in_term right))
+      (positions_go_on (numbers_in_term left ++ numbers_in_term right) []));
 }
   where
     numbers : theory.variable_numbers (renumbered (appearing left right) left)
         ++ theory.variable_numbers (renumbered (appearing left right) right)
-        ≡ map (position (appearing left right)) (variable_numbers left ++ variable_numbers right)
+        ≡ map (position (appearing left right)) (numbers_in_term left ++ numbers_in_term right)
     numbers =
         ap (λ (ns : List ℕ). ns ++ theory.variable_numbers (renumbered (appearing left right) right))
         (new_numbers (appearing left right) left)
-        ∙ (ap (λ (ns : List ℕ). map (position (appearing left right)) (variable_numbers left) ++ ns)
+        ∙ (ap (λ (ns : List ℕ). map (position (appearing left right)) (numbers_in_term left) ++ ns)
         (new_numbers (appearing left right) right)
-        ∙ sym (map-append (position (appearing left right)) (variable_numbers left) (variable_numbers right)))
+        ∙ sym (map-append (position (appearing left right)) (numbers_in_term left) (numbers_in_term right)))

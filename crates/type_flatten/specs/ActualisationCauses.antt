@@ -10,7 +10,7 @@ use Rattle.type_definitions.specs.Union.{Mentioned, with_mentioned}
 use Rattle.type_definitions.specs.Renaming.{pair_for}
 use Rattle.type_definitions.specs.Actualisation.{Actualising, formal_sorts_of, formal_operations_of, actualised_sort, actual_name, other_form, actualised_equations}
 use Rattle.type_definitions.specs.ActualisationFaults.{Coming, coming_at, coming_sorts, coming_operations, there_already, actualising_of}
-use Rattle.type_flatten.specs.FaultCauses.{Cause, OrElse, FirstAlong, AreOneSort, AreOneOperation, MentionBrings, NamesNoSort, OldSortIsUnknown, OldSortIsTaken, OperationPairBrings, with_pair}
+use Rattle.type_flatten.specs.FaultCauses.{Cause, OrElse, FirstAlong, AreOneSort, AreAlikeOperations, MentionBrings, NamesNoSort, OldSortIsUnknown, OldSortIsTaken, OperationPairBrings, with_earlier_pair}
 
 -- ---- Pairs
 
@@ -82,7 +82,7 @@ SortsClash one other = AreOneSort one.image other.image × ((¬ AreOneName one.i
 
 abbrev pub OperationsClash : Coming Operation → Coming Operation → Type 0
 OperationsClash one other =
-    AreOneOperation one.image other.image × ((¬ AreOneName one.image.origin other.image.origin) ⊎ MadeByTwo one other)
+    AreAlikeOperations one.image other.image × ((¬ AreOneName one.image.origin other.image.origin) ⊎ MadeByTwo one other)
 
 -- what comes clashes with one before it
 abbrev pub Clashes : {A : Type 0} → Actualising → (Coming A → Coming A → Type 0) → (Place → List ℕ → TypeFault) → List (Coming A) → Coming A
@@ -123,8 +123,8 @@ ComingBrings a =
 -- the pairs of sorts, those of operations, the formal sorts, the formal operations, and what comes in
 abbrev pub ActualisingBrings : Actualising → Cause
 ActualisingBrings a =
-    OrElse (FirstAlong (ActualPairBrings a.base.presentation) with_pair [] a.pairs.sort_pairs)
-    (OrElse (FirstAlong (OperationPairBrings a.base.presentation.signature) with_pair [] a.pairs.operation_pairs)
+    OrElse (FirstAlong (ActualPairBrings a.base.presentation) with_earlier_pair [] a.pairs.sort_pairs)
+    (OrElse (FirstAlong (OperationPairBrings a.base.presentation.signature) with_earlier_pair [] a.pairs.operation_pairs)
     (OrElse (FirstAlong FormalSortIsMissing keeps_all a (formal_sorts_of a.base.presentation))
     (OrElse (FirstAlong FormalOperationIsMissing keeps_all a (formal_operations_of a.base.presentation)) (ComingBrings a))))
 

@@ -6,13 +6,13 @@ use Rattle.lotos_base.specs.Names.{AreOneName}
 use Rattle.lotos_base.specs.Signature.{Sort, Operation}
 use Rattle.syntax_trees.specs.WrittenItem.{WrittenPair, WrittenPairs}
 use Rattle.type_definitions.specs.TypeFault.{TypeFault, double_operation}
-use Rattle.type_definitions.specs.Presentation.{is_marked, is_same_equation, first_position}
+use Rattle.type_definitions.specs.Presentation.{is_marked_number, is_same_equation, first_position}
 use Rattle.type_definitions.specs.Images.{equation_image}
 use Rattle.type_definitions.specs.Union.{Mentioned}
 use Rattle.type_definitions.specs.Renaming.{pair_for}
 use Rattle.type_definitions.specs.Actualisation.{Actualising, actual_name, actualised_sort, actualised_operation, actualised_equations, other_operation_image, operation_renamer}
 use Rattle.type_definitions.specs.ActualisationFaults.{Coming, coming_operations, there_already, actualising_of}
-use Rattle.type_flatten.specs.FaultCauses.{AreOneOperation}
+use Rattle.type_flatten.specs.FaultCauses.{AreAlikeOperations}
 use Rattle.type_flatten.specs.ActualisationCauses.{OperationsClash, Clashes, ActualisationBrings}
 
 -- the name that a formal sort has among the actual types
@@ -25,8 +25,8 @@ pub record HaveOneActual (a : Actualising) (i j : ℕ) : Type 0 where
   pub other : Sort
   pub here : slice_get a.base.presentation.signature.sorts i ≡ Some one
   pub there : slice_get a.base.presentation.signature.sorts j ≡ Some other
-  pub formal : is_marked a.base.presentation.formal_sorts i ≡ true
-  pub formal_too : is_marked a.base.presentation.formal_sorts j ≡ true
+  pub formal : is_marked_number a.base.presentation.formal_sorts i ≡ true
+  pub formal_too : is_marked_number a.base.presentation.formal_sorts j ≡ true
   pub same : AreOneName (sought_name a one) (sought_name a other)
 
 -- two operations of the base, neither formal, that are alike but for sorts that become one
@@ -35,8 +35,8 @@ pub record AreAlikeButForSorts (a : Actualising) (i j : ℕ) : Type 0 where
   pub other : Operation
   pub here : slice_get a.base.presentation.signature.operations i ≡ Some one
   pub there : slice_get a.base.presentation.signature.operations j ≡ Some other
-  pub not_formal : is_marked a.base.presentation.formal_operations i ≡ false
-  pub not_formal_too : is_marked a.base.presentation.formal_operations j ≡ false
+  pub not_formal : is_marked_number a.base.presentation.formal_operations i ≡ false
+  pub not_formal_too : is_marked_number a.base.presentation.formal_operations j ≡ false
   pub named : AreOneName one.name other.name
   pub formed : one.form ≡ other.form
   pub origin : AreOneName one.origin other.origin
@@ -60,7 +60,7 @@ pub record PairsMakeOne (a : Actualising) : Type 0 where
   pub before : i < j
   pub here : slice_get (coming_operations a) i ≡ Some one
   pub there : slice_get (coming_operations a) j ≡ Some other
-  pub same : AreOneOperation other.image one.image
+  pub same : AreAlikeOperations other.image one.image
   pub earlier : WrittenPair
   pub later : WrittenPair
   pub made : one.pair ≡ Some earlier

@@ -3,7 +3,7 @@ use Rattle.std.specs.Prelude.{◌≡◌, ℕ, true, Some, slice_get}
 use Rattle.lotos_base.specs.Signature.{Signature, Sort, Operation, IsSort, IsOperation}
 use Rattle.lotos_base.specs.Equation.{Equation}
 use Rattle.type_definitions.specs.Images.{operation_image, equation_image}
-use Rattle.type_definitions.specs.Presentation.{Presentation, is_same_sort, is_same_operation, is_same_equation, is_marked}
+use Rattle.type_definitions.specs.Presentation.{Presentation, is_same_sort, is_same_operation, is_same_equation, is_marked_number}
 
 -- The sorts, operations and equations of the first stand at the same positions in the second, and what is marked in the first
 -- is marked in the second.
@@ -12,8 +12,8 @@ pub record StaysIn (p r : Presentation) : Type 0 where
   pub operations : (i : ℕ) (o : Operation) → slice_get p.signature.operations i ≡ Some o
       → slice_get r.signature.operations i ≡ Some o
   pub equations : (i : ℕ) (e : Equation) → slice_get p.equations i ≡ Some e → slice_get r.equations i ≡ Some e
-  pub formal_sorts : (n : ℕ) → is_marked p.formal_sorts n ≡ true → is_marked r.formal_sorts n ≡ true
-  pub formal_operations : (n : ℕ) → is_marked p.formal_operations n ≡ true → is_marked r.formal_operations n ≡ true
+  pub formal_sorts : (n : ℕ) → is_marked_number p.formal_sorts n ≡ true → is_marked_number r.formal_sorts n ≡ true
+  pub formal_operations : (n : ℕ) → is_marked_number p.formal_operations n ≡ true → is_marked_number r.formal_operations n ≡ true
 
 -- Each sort of the first is one of the second, at its new number. So is each operation and each equation, once it speaks of the
 -- new numbers, and what is marked in the first is marked in the second.
@@ -26,9 +26,9 @@ pub record LiesIn (to_sort to_operation : ℕ → ℕ) (q r : Presentation) : Ty
   pub equations : (i : ℕ) (e : Equation) → slice_get q.equations i ≡ Some e
       → (f : Equation) × (j : ℕ) × (slice_get r.equations j ≡ Some f)
       × (is_same_equation (equation_image to_sort to_operation e) f ≡ true)
-  pub formal_sorts : (n : ℕ) → is_marked q.formal_sorts n ≡ true → is_marked r.formal_sorts (to_sort n) ≡ true
-  pub formal_operations : (n : ℕ) → is_marked q.formal_operations n ≡ true
-      → is_marked r.formal_operations (to_operation n) ≡ true
+  pub formal_sorts : (n : ℕ) → is_marked_number q.formal_sorts n ≡ true → is_marked_number r.formal_sorts (to_sort n) ≡ true
+  pub formal_operations : (n : ℕ) → is_marked_number q.formal_operations n ≡ true
+      → is_marked_number r.formal_operations (to_operation n) ≡ true
 
 -- Different sorts of the signature get different numbers, and so do different operations.
 pub record IsOneToOne (to_sort to_operation : ℕ → ℕ) (signature : Signature) : Type 0 where

@@ -9,7 +9,7 @@ use Rattle.sort_terms.specs.ReadingOutcome.{ReadingRefusal}
 use Rattle.type_definitions.specs.TypeFault.{unknown_sort, premised, no_reading, too_large}
 use Rattle.type_definitions.specs.Presentation.{Presentation, presentation_limit}
 use Rattle.type_definitions.specs.Declarations.{sort_numbered}
-use Rattle.type_definitions.specs.DeclaredEquations.{AskedEquation, EquationQuestion, sort_asked, formal_asked, own_asked, scope_of, fault_of, bool_sort}
+use Rattle.type_definitions.specs.DeclaredEquations.{AskedEquation, EquationQuestion, sort_asked, formal_asked, own_asked, scope_of, type_fault_of, bool_sort}
 use Rattle.type_flatten.specs.FirstCause.{OrElse, FirstAlong, stays}
 use Rattle.type_flatten.specs.FaultCauses.{Cause, NamesNoSort}
 use Rattle.type_flatten.specs.ReadingCauses.{RefusalCause, TermBrings, PairBrings}
@@ -18,7 +18,7 @@ use Rattle.type_flatten.specs.ReadingCauses.{RefusalCause, TermBrings, PairBring
 
 -- a refusal of a term or of a pair, told as a fault of the type
 abbrev pub ToldAsFault : RefusalCause → Cause
-ToldAsFault Is fault = (refusal : ReadingRefusal) × Is refusal × (fault ≡ fault_of refusal)
+ToldAsFault Is fault = (refusal : ReadingRefusal) × Is refusal × (fault ≡ type_fault_of refusal)
 
 -- a side is read at the sort of its `ofsort`, with the variables in scope
 abbrev pub SideBrings : Presentation → AskedEquation → WrittenTerm → Cause

@@ -8,7 +8,7 @@ use Rattle.type_definitions.specs.Presentation.{Presentation, nothing}
 use Rattle.type_definitions.specs.Union.{Mentioned, presentation_fault, with_mentioned, union_fault}
 use Rattle.type_definitions.specs.Declarations.{declaration_fault}
 use Rattle.type_definitions.specs.Renaming.{sort_pairs_fault, operation_pairs_fault}
-use Rattle.type_flatten.specs.FaultCauses.{FirstAlong, IsWrongWith, MentionBrings, DeclarationsBring, SortPairBrings, OperationPairBrings, with_pair}
+use Rattle.type_flatten.specs.FaultCauses.{FirstAlong, IsWrongWith, MentionBrings, DeclarationsBring, SortPairBrings, OperationPairBrings, with_earlier_pair}
 
 pub record UnionsAreFaultyWhereCaused : Type 0 where
   -- a presentation that comes about at a place has a fault exactly where its cause stands
@@ -30,7 +30,7 @@ DeclarationsAreFaultyWhereCaused =
 pub record PairsAreFaultyWhereCaused : Type 0 where
   pub sorts :
       (signature : Signature) (pairs : List WrittenPair) (fault : TypeFault) →
-      (sort_pairs_fault signature [] pairs ≡ Some fault) ↔ FirstAlong (SortPairBrings signature) with_pair [] pairs fault
+      (sort_pairs_fault signature [] pairs ≡ Some fault) ↔ FirstAlong (SortPairBrings signature) with_earlier_pair [] pairs fault
   pub operations :
       (signature : Signature) (pairs : List WrittenPair) (fault : TypeFault) →
-      (operation_pairs_fault signature [] pairs ≡ Some fault) ↔ FirstAlong (OperationPairBrings signature) with_pair [] pairs fault
+      (operation_pairs_fault signature [] pairs ≡ Some fault) ↔ FirstAlong (OperationPairBrings signature) with_earlier_pair [] pairs fault

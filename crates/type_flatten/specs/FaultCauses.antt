@@ -31,7 +31,7 @@ pub record HasTwoAlike {A : Type 0} (AreOne : A → A → Type 0) (xs : List A) 
 abbrev pub AreOneSort : Sort → Sort → Type 0
 AreOneSort one other = AreOneName one.name other.name
 
-pub record AreOneOperation (one other : Operation) : Type 0 where
+pub record AreAlikeOperations (one other : Operation) : Type 0 where
   pub named : AreOneName one.name other.name
   pub formed : one.form ≡ other.form
   pub arguments : one.arguments ≡ other.arguments
@@ -48,7 +48,7 @@ abbrev pub TwoSorts : Place → List ℕ → Presentation → Cause
 TwoSorts place name p fault = (fault ≡ double_sort place name) × HasTwoAlike AreOneSort p.signature.sorts
 
 abbrev pub TwoOperations : Place → List ℕ → Presentation → Cause
-TwoOperations place name p fault = (fault ≡ double_operation place name) × HasTwoAlike AreOneOperation p.signature.operations
+TwoOperations place name p fault = (fault ≡ double_operation place name) × HasTwoAlike AreAlikeOperations p.signature.operations
 
 abbrev pub TooMuch : Place → List ℕ → Presentation → Cause
 TooMuch place name p fault = (fault ≡ too_large place name) × IsAboveLimit presentation_limit p
@@ -139,5 +139,5 @@ abbrev pub OperationPairBrings : Signature → List WrittenPair → WrittenPair 
 OperationPairBrings signature earlier pair = OrElse (OldOperationIsUnknown signature pair) (OldOperationIsTaken earlier pair)
 
 -- the pair is an earlier one from then on
-abbrev pub with_pair : List WrittenPair → WrittenPair → List WrittenPair
-with_pair earlier pair = earlier ++ pair ∷ []
+abbrev pub with_earlier_pair : List WrittenPair → WrittenPair → List WrittenPair
+with_earlier_pair earlier pair = earlier ++ pair ∷ []

@@ -12,7 +12,7 @@ use Rattle.type_definitions.specs.TypeGraph.{IsAcyclic}
 use Rattle.type_definitions.specs.TypeFault.{TypeFault as PlainTypeFault}
 use Rattle.type_definitions.specs.Presentation.{Presentation as PlainPresentation}
 use Rattle.type_definitions.specs.Union.{Mentioned, union_of, union_fault}
-use Rattle.type_definitions.specs.Flattened.{IsPresentation, IsFaultOfType, ArePresented, HasFaultyType, declared_with, without_formals, data_of, IsFlattening, IsFlatteningFault}
+use Rattle.type_definitions.specs.Flattened.{IsPresentation, IsFaultOfType, ArePresented, HasFaultyType, declared_with, without_formals, flattened_data_of, IsFlattening, IsFlatteningFault}
 use Rattle.type_definitions.specs.FaultView.{HoldsOfFault, IsFaultFound}
 use Rattle.type_definitions.specs.declared.type_faults.TypeFault.{TypeFault}
 use Rattle.type_definitions.specs.declared.type_faults.TypeFault.TheVariants.{DoubleType, UnknownType, TypeCycle, DoubleSort, UnknownSort, DoubleOperation, UnknownOperation, NotFormal, MissingActual, TooLarge, Premised, Term, NoMemory}
@@ -55,14 +55,14 @@ pub record AreRefusedBehind (done : List Mentioned) (types : List DeclaredType) 
 
 -- The data are those of the presentation; they are well formed, and the sides of their equations are of their signature.
 pub record AreDataOf (p : PlainPresentation) (flat : Flat) : Type 0 where
-  pub same : data_in flat ≡ data_of p
+  pub same : data_in flat ≡ flattened_data_of p
   pub well_formed : IsWellFormedData (data_in flat)
   pub sides : HasSidesOf flat
 
 -- The data are those of the union of the types in which nothing is formal.
 pub record AreUnited (all : List Mentioned) (flat : Flat) : Type 0 where
   pub none : union_fault (without_formals all) ≡ None
-  pub same : data_in flat ≡ data_of (union_of (without_formals all))
+  pub same : data_in flat ≡ flattened_data_of (union_of (without_formals all))
   pub well_formed : IsWellFormedData (data_in flat)
   pub sides : HasSidesOf flat
 

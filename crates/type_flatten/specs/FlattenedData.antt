@@ -6,12 +6,12 @@ use Rattle.type_definitions.specs.DeclaredTypes.{DeclaredType}
 use Rattle.type_definitions.specs.Presentation.{Presentation}
 use Rattle.type_definitions.specs.Union.{Mentioned, union_of, union_fault}
 use Rattle.type_definitions.specs.UnionLaws.{IsIn}
-use Rattle.type_definitions.specs.Flattened.{data_of, IsPresentation, IsFlattening}
+use Rattle.type_definitions.specs.Flattened.{flattened_data_of, IsPresentation, IsFlattening}
 
 -- the data of a presentation are well formed: its profiles name sorts that it has, no two of its sorts have one name, no two of
 -- its operations one name, form and profile, and each equation is one over them
 abbrev pub IsFine : Presentation → Type 0
-IsFine p = IsWellFormedData (data_of p)
+IsFine p = IsWellFormedData (flattened_data_of p)
 
 -- so is each that is mentioned
 abbrev pub AreFine : List Mentioned → Type 0

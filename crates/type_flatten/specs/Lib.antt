@@ -1,7 +1,5 @@
 pub mod FlatView
 pub mod RequiredView
-pub mod FormalLists
-pub mod FormalTypesView
 pub mod Containment
 pub mod UnionBounds
 pub mod Contributions

@@ -4,7 +4,7 @@ use Rattle.std.specs.Prelude.{◌≡◌, ◌⊎◌, ℕ, true, false, Some, map,
 use Rattle.lotos_base.specs.Signature.{Sort, Operation}
 use Rattle.lotos_base.specs.Equation.{Equation}
 use Rattle.type_definitions.specs.Images.{equation_image}
-use Rattle.type_definitions.specs.Presentation.{is_same_sort, is_same_operation, is_same_equation, is_marked}
+use Rattle.type_definitions.specs.Presentation.{is_same_sort, is_same_operation, is_same_equation, is_marked_number}
 use Rattle.type_definitions.specs.UnionLaws.{IsIn}
 use Rattle.type_definitions.specs.Actualisation.{Actualising, actualisation, actualised_sort, actualised_operation, other_sort_image, other_operation_image, other_sorts_of, other_operations_of}
 use Rattle.type_flatten.specs.Containment.{StaysIn}
@@ -16,12 +16,12 @@ pub record ActualisationsContain : Type 0 where
   pub formal_operations : (a : Actualising) → (actualisation a).formal_operations ≡ a.actual.formal_operations
   -- each sort of the base that is not formal has its image, at its new number, and so has each such operation
   pub sorts_come : (a : Actualising) (i : ℕ) (s : Sort) → slice_get a.base.presentation.signature.sorts i ≡ Some s
-      → is_marked a.base.presentation.formal_sorts i ≡ false
+      → is_marked_number a.base.presentation.formal_sorts i ≡ false
       → (t : Sort) × (slice_get (actualisation a).signature.sorts (actualised_sort a i) ≡ Some t)
       × (is_same_sort (other_sort_image a s) t ≡ true)
   pub operations_come : (a : Actualising) (i : ℕ) (o : Operation)
       → slice_get a.base.presentation.signature.operations i ≡ Some o
-      → is_marked a.base.presentation.formal_operations i ≡ false
+      → is_marked_number a.base.presentation.formal_operations i ≡ false
       → (u : Operation) × (slice_get (actualisation a).signature.operations (actualised_operation a i) ≡ Some u)
       × (is_same_operation (other_operation_image a o) u ≡ true)
   -- each equation of the base has its image, over the actual sorts and operations

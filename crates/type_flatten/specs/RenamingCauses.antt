@@ -7,7 +7,7 @@ use Rattle.type_definitions.specs.TypeFault.{TypeFault, double_sort, double_oper
 use Rattle.type_definitions.specs.Presentation.{Presentation}
 use Rattle.type_definitions.specs.Renaming.{pair_for, renamed_sort, renamed_operation}
 use Rattle.type_flatten.specs.FirstCause.{and_also}
-use Rattle.type_flatten.specs.FaultCauses.{Cause, OrElse, FirstAlong, AreOneSort, AreOneOperation, SortPairBrings, OperationPairBrings, with_pair}
+use Rattle.type_flatten.specs.FaultCauses.{Cause, OrElse, FirstAlong, AreOneSort, AreAlikeOperations, SortPairBrings, OperationPairBrings, with_earlier_pair}
 
 -- the fault stands at the pair of the later one, or where it has none at that of the earlier one
 abbrev pub FaultStandsAt : (Place → List ℕ → TypeFault) → Option WrittenPair → Option WrittenPair → Cause
@@ -35,13 +35,13 @@ abbrev pub OperationsMeet : List ℕ → WrittenPairs → List Operation → Ope
 OperationsMeet type_name pairs =
     Coincides
     (λ (one : Operation) (other : Operation).
-    AreOneOperation (renamed_operation type_name pairs one) (renamed_operation type_name pairs other))
+    AreAlikeOperations (renamed_operation type_name pairs one) (renamed_operation type_name pairs other))
     (λ (operation : Operation). pair_for pairs.operation_pairs operation.name) double_operation
 
 -- the pairs of sorts, those of operations, the images of sorts, and those of operations
 abbrev pub RenamingBrings : Presentation → List ℕ → WrittenPairs → Cause
 RenamingBrings base type_name pairs =
-    OrElse (FirstAlong (SortPairBrings base.signature) with_pair [] pairs.sort_pairs)
-    (OrElse (FirstAlong (OperationPairBrings base.signature) with_pair [] pairs.operation_pairs)
+    OrElse (FirstAlong (SortPairBrings base.signature) with_earlier_pair [] pairs.sort_pairs)
+    (OrElse (FirstAlong (OperationPairBrings base.signature) with_earlier_pair [] pairs.operation_pairs)
     (OrElse (FirstAlong (SortsMeet type_name pairs) and_also [] base.signature.sorts)
     (FirstAlong (OperationsMeet type_name pairs) and_also [] base.signature.operations)))

@@ -4,7 +4,7 @@ use Rattle.std.specs.Prelude.{◌≡◌, ℕ, true, List, ◌∷◌, ◌++◌, m
 use Rattle.lotos_base.specs.Signature.{Sort, Operation, IsWellFormedSignature}
 use Rattle.lotos_base.specs.Equation.{Equation}
 use Rattle.type_definitions.specs.Images.{equation_image}
-use Rattle.type_definitions.specs.Presentation.{Presentation, is_marked}
+use Rattle.type_definitions.specs.Presentation.{Presentation, is_marked_number}
 use Rattle.type_definitions.specs.Union.{Mentioned, union_of, joined_sort, joined_operation, coming_operations}
 use Rattle.type_definitions.specs.UnionLaws.{IsIn}
 use Rattle.type_flatten.specs.Containment.{StaysIn, LiesIn, IsOneToOne}
@@ -43,9 +43,9 @@ pub record UnionsAreBounds : Type 0 where
   pub no_other_equations : (all : List Mentioned) (e : Equation) → IsIn (union_of all).equations e
       → (before : List Mentioned) × (m : Mentioned) × IsBehind before m all
       × IsIn (coming_equations (union_of before) m.presentation) e
-  pub no_other_formal_sorts : (all : List Mentioned) (n : ℕ) → is_marked (union_of all).formal_sorts n ≡ true
+  pub no_other_formal_sorts : (all : List Mentioned) (n : ℕ) → is_marked_number (union_of all).formal_sorts n ≡ true
       → (before : List Mentioned) × (m : Mentioned) × IsBehind before m all
-      × (is_marked (map (sort_behind before m) m.presentation.formal_sorts) n ≡ true)
-  pub no_other_formal_operations : (all : List Mentioned) (n : ℕ) → is_marked (union_of all).formal_operations n ≡ true
+      × (is_marked_number (map (sort_behind before m) m.presentation.formal_sorts) n ≡ true)
+  pub no_other_formal_operations : (all : List Mentioned) (n : ℕ) → is_marked_number (union_of all).formal_operations n ≡ true
       → (before : List Mentioned) × (m : Mentioned) × IsBehind before m all
-      × (is_marked (map (operation_behind before m) m.presentation.formal_operations) n ≡ true)
+      × (is_marked_number (map (operation_behind before m) m.presentation.formal_operations) n ≡ true)

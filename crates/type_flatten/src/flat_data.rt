@@ -11,7 +11,7 @@ ghost use Rattle.type_presentations.specs.PresentationView.{
 use lotos_base::NoMemory;
 use sort_terms::Flat;
 use std::alloc::Global;
-use type_equations::signature_with_twins;
+use type_actualisation::signature_with_twins;
 use type_presentations::Presentation;
 
 /// The signature and the equations of the presentation, without its marks. The signature says which

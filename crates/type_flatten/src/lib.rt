@@ -17,13 +17,9 @@ pub mod flat_data;
 pub mod flattened_data_laws;
 pub mod flattening;
 pub mod flattening_laws;
-pub mod formal_lists;
-pub mod formal_types;
 pub mod one_type;
 pub mod order_laws;
-pub mod own_formals;
 pub mod requiring;
-pub mod type_formals;
 
 pub use flattened_data_laws::flattened_data_are_well_formed;
 pub use flattening::flatten;

@@ -15,12 +15,10 @@ ghost use Rattle.type_definitions.specs.TypeView.{type_body_of};
 use lotos_base::Name;
 use std::alloc::Global;
 use syntax_trees::{ItemBody, Named, PairText};
-use type_actualisation::actualise;
+use type_actualisation::{actualise, declare_equations, rename};
 use type_declarations::{SectionTexts, declare};
 use type_definitions::TypeFault;
-use type_equations::declare_equations;
 use type_presentations::Presentation;
-use type_renaming::rename;
 use type_unions::{PresentedTypes, union_of_mentions};
 
 /// The presentation of the type of this name and body, after the types that it mentions, or its

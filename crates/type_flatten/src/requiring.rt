@@ -9,8 +9,8 @@ ghost use Rattle.type_definitions.specs.MentionFaults.{AreInOrder};
 ghost use Rattle.type_definitions.specs.Requirements.{required_of};
 ghost use Rattle.type_definitions.specs.TypeNamesView.{types_in};
 ghost use Rattle.type_definitions.specs.TypeView.{declared_type_of, declared_types_of};
-ghost use Rattle.type_flatten.specs.FormalLists.{IsUnionWith};
-ghost use Rattle.type_flatten.specs.FormalTypesView.{
+ghost use Rattle.type_actualisation.specs.FormalLists.{IsUnionWith};
+ghost use Rattle.type_actualisation.specs.FormalTypesView.{
   AreFlattenedBehind,
   AreFormalTypes,
   AreRequiredInOrder,
@@ -23,14 +23,12 @@ ghost use Rattle.type_presentations.specs.PresentationView.{presentation_of};
 ghost use Rattle.type_unions.specs.PresentedView.{IsSoundPresentation};
 
 use crate::flattening::{in_order, united};
-use crate::formal_lists::FormalUnion;
-use crate::formal_types::FormalTypes;
 use crate::one_type::presentation_of_type;
-use crate::type_formals::{formals_of_type, required_of_type};
 use lotos_base::NoMemory;
 use sort_terms::Equation;
 use std::alloc::Global;
 use syntax_trees::ItemText;
+use type_actualisation::{FormalTypes, FormalUnion, formals_of_type, required_of_type};
 use type_definitions::{TypeFault, TypeOrder, TypeText, order_types};
 use type_presentations::{EquationList, Presentation};
 

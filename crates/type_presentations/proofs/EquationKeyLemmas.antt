@@ -3,20 +3,17 @@ use Rattle.std.proofs.Common.{◌≡◌, ℕ, zero, suc, Bool, true, false, List
 use Rattle.std.specs.Prelude.{◌&&◌, ◌↔◌, nat_eq}
 use Rattle.std.proofs.lemmas.Bool.{eq-eqb, eqb-true, and_from}
 use Rattle.std.proofs.lemmas.List.{append-nil}
-use Rattle.lotos_base.proofs.Pieces.{next_member}
+use Rattle.lotos_base.proofs.Pieces.{next_member, same_heads}
 use Rattle.lotos_base.specs.Term.{Term, Terms, variable, node, no_terms, term_then}
 use Rattle.lotos_base.specs.Equation.{Place, Equation}
 use Rattle.lotos_base.specs.Tests.{term_eq}
 use Rattle.lotos_base.proofs.TestLemmas.{Decides-term_eq}
-use Rattle.sort_terms.specs.TermView.{term_of, terms_of}
+use Rattle.sort_terms.specs.TermView.{term_of, bare_terms_of}
 use Rattle.sort_terms.specs.declared.terms.Term.{Term as CodeTerm}
 use Rattle.type_definitions.specs.Presentation.{is_same_place, is_same_equation}
 use Rattle.type_presentations.specs.EquationKeys.{term_key, terms_key, equation_key, EquationKeysTell}
 
 -- ---- Lists and tests.
-
-first_is : (x y : ℕ) (xs ys : List ℕ) → x ∷ xs ≡ y ∷ ys → x ≡ y
-first_is x y xs ys e = cc
 
 rest_is : (x y : ℕ) (xs ys : List ℕ) → x ∷ xs ≡ y ∷ ys → xs ≡ ys
 rest_is x y xs ys e = cc
@@ -38,27 +35,27 @@ mutual
   read_term : (t u : Term) (xs ys : List ℕ) → term_key t ++ xs ≡ term_key u ++ ys → (t ≡ u) × (xs ≡ ys)
   read_term (variable n s) (variable m r) xs ys e =
       let behind : n ∷ s ∷ xs ≡ m ∷ r ∷ ys = rest_is 0 0 (n ∷ s ∷ xs) (m ∷ r ∷ ys) e in
-      let number : n ≡ m = first_is n m (s ∷ xs) (r ∷ ys) behind in
+      let number : n ≡ m = same_heads n m (s ∷ xs) (r ∷ ys) behind in
       let further : s ∷ xs ≡ r ∷ ys = rest_is n m (s ∷ xs) (r ∷ ys) behind in
-      let sort : s ≡ r = first_is s r xs ys further in
+      let sort : s ≡ r = same_heads s r xs ys further in
       (ap (λ (k : ℕ). variable k s) number ∙ ap (λ (k : ℕ). variable m k) sort, rest_is s r xs ys further)
   read_term (variable n s) (node g us) xs ys e =
-      absurd (not_both 0 refl (first_is 0 1 (n ∷ s ∷ xs) (g ∷ (terms_key us ++ ys)) e))
+      absurd (not_both 0 refl (same_heads 0 1 (n ∷ s ∷ xs) (g ∷ (terms_key us ++ ys)) e))
   read_term (node f ts) (variable m r) xs ys e =
-      absurd (not_both 1 (first_is 1 0 (f ∷ (terms_key ts ++ xs)) (m ∷ r ∷ ys) e) refl)
+      absurd (not_both 1 (same_heads 1 0 (f ∷ (terms_key ts ++ xs)) (m ∷ r ∷ ys) e) refl)
   read_term (node f ts) (node g us) xs ys e =
       let behind : f ∷ (terms_key ts ++ xs) ≡ g ∷ (terms_key us ++ ys) =
       rest_is 1 1 (f ∷ (terms_key ts ++ xs)) (g ∷ (terms_key us ++ ys)) e in
-      let operation : f ≡ g = first_is f g (terms_key ts ++ xs) (terms_key us ++ ys) behind in
+      let operation : f ≡ g = same_heads f g (terms_key ts ++ xs) (terms_key us ++ ys) behind in
       let rest = read_terms ts us xs ys (rest_is f g (terms_key ts ++ xs) (terms_key us ++ ys) behind) in
       (ap (λ (k : ℕ). node k ts) operation ∙ ap (λ (vs : Terms). node g vs) rest.0, rest.1)
 
   read_terms : (ts us : Terms) (xs ys : List ℕ) → terms_key ts ++ xs ≡ terms_key us ++ ys → (ts ≡ us) × (xs ≡ ys)
   read_terms no_terms no_terms xs ys e = (refl, rest_is 0 0 xs ys e)
   read_terms no_terms (term_then u us) xs ys e =
-      absurd (not_both 0 refl (first_is 0 1 xs ((term_key u ++ terms_key us) ++ ys) e))
+      absurd (not_both 0 refl (same_heads 0 1 xs ((term_key u ++ terms_key us) ++ ys) e))
   read_terms (term_then t ts) no_terms xs ys e =
-      absurd (not_both 1 (first_is 1 0 ((term_key t ++ terms_key ts) ++ xs) ys e) refl)
+      absurd (not_both 1 (same_heads 1 0 ((term_key t ++ terms_key ts) ++ xs) ys e) refl)
   read_terms (term_then t ts) (term_then u us) xs ys e =
       let behind : (term_key t ++ terms_key ts) ++ xs ≡ (term_key u ++ terms_key us) ++ ys =
       rest_is 1 1 ((term_key t ++ terms_key ts) ++ xs) ((term_key u ++ terms_key us) ++ ys) e in
@@ -87,12 +84,12 @@ key_to_same a b e =
     let sides_a : List ℕ = term_key a.left ++ term_key a.right in
     let sides_b : List ℕ = term_key b.left ++ term_key b.right in
     let text : a.place.text ≡ b.place.text =
-    first_is _ _ (a.place.line ∷ a.place.column ∷ sides_a) (b.place.line ∷ b.place.column ∷ sides_b) e in
+    same_heads _ _ (a.place.line ∷ a.place.column ∷ sides_a) (b.place.line ∷ b.place.column ∷ sides_b) e in
     let after_text =
     rest_is a.place.text b.place.text (a.place.line ∷ a.place.column ∷ sides_a) (b.place.line ∷ b.place.column ∷ sides_b) e in
-    let line : a.place.line ≡ b.place.line = first_is _ _ (a.place.column ∷ sides_a) (b.place.column ∷ sides_b) after_text in
+    let line : a.place.line ≡ b.place.line = same_heads _ _ (a.place.column ∷ sides_a) (b.place.column ∷ sides_b) after_text in
     let after_line = rest_is a.place.line b.place.line (a.place.column ∷ sides_a) (b.place.column ∷ sides_b) after_text in
-    let column : a.place.column ≡ b.place.column = first_is _ _ sides_a sides_b after_line in
+    let column : a.place.column ≡ b.place.column = same_heads _ _ sides_a sides_b after_line in
     let sides : sides_a ≡ sides_b = rest_is a.place.column b.place.column sides_a sides_b after_line in
     let left = read_term a.left b.left (term_key a.right) (term_key b.right) sides in
     let whole : term_key a.right ++ [] ≡ term_key b.right ++ [] = ap (λ (xs : List ℕ). xs ++ []) left.1 in
@@ -123,10 +120,10 @@ equation_keys_tell = record { equations = λ a b. (key_to_same a b, same_to_key 
 
 pub terms_more : (terms : List CodeTerm) (before pushed new whole : List ℕ) (i : ℕ) (t : CodeTerm) → i < length terms
     → t ≡ get_or terms i t → pushed ≡ before ++ 1 ∷ [] → new ≡ pushed ++ term_key (term_of t)
-    → before ++ terms_key (terms_of (drop i terms)) ≡ whole → new ++ terms_key (terms_of (drop (i + 1) terms)) ≡ whole
+    → before ++ terms_key (bare_terms_of (drop i terms)) ≡ whole → new ++ terms_key (bare_terms_of (drop (i + 1) terms)) ≡ whole
 terms_more terms before pushed new whole i t within is head body so_far =
-    let rest : List ℕ = terms_key (terms_of (drop (i + 1) terms)) in
+    let rest : List ℕ = terms_key (bare_terms_of (drop (i + 1) terms)) in
     let this : List ℕ = term_key (term_of t) in
     ap (λ (xs : List ℕ). xs ++ rest) (body ∙ ap (λ (xs : List ℕ). xs ++ this) head)
     ∙ append_assoc (before ++ 1 ∷ []) this rest ∙ append_assoc before (1 ∷ []) (this ++ rest)
-    ∙ sym (ap (λ (ts : List CodeTerm). before ++ terms_key (terms_of ts)) (next_member terms i t within is)) ∙ so_far
+    ∙ sym (ap (λ (ts : List CodeTerm). before ++ terms_key (bare_terms_of ts)) (next_member terms i t within is)) ∙ so_far

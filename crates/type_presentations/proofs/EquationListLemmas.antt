@@ -1,6 +1,6 @@
 -- An equation that comes to a list of equations.
-use Rattle.std.proofs.Common.{◌≡◌, ℕ, zero, suc, Bool, true, false, List, [], ◌∷◌, ◌++◌, ◌+◌, ◌<◌, inl, inr, map, length, get_or, refl, ap, sym, ◌∙◌, subst, arith}
-use Rattle.std.specs.Prelude.{Some, not, slice_get}
+use Rattle.std.proofs.Common.{◌≡◌, ℕ, Bool, true, false, List, [], ◌∷◌, ◌++◌, ◌+◌, inl, inr, map, refl, ap, sym, ◌∙◌, subst}
+use Rattle.std.specs.Prelude.{not, slice_get}
 use Rattle.std.specs.List.{list_any}
 use Rattle.std.specs.Str.{bytes_eq}
 use Rattle.std.proofs.lemmas.List.{map-append}
@@ -55,11 +55,3 @@ sides_of_pushed signature old new e is have has i other found =
       | inl before ↦ have i other before
       | inr last ↦ subst (λ (x : CodeEquation). HasSidesOver signature x) last has
     ]
-
-pub element_at : {A : Type 0} (xs : List A) (i : ℕ) (x : A) → i < length xs → x ≡ get_or xs i x → slice_get xs i ≡ Some x
-element_at [] i x within is = absurd (omega arith)
-element_at {A = A} (y ∷ ys) zero x within is = ap (λ (z : A). Some z) (sym is)
-element_at (y ∷ ys) (suc i) x within is = element_at ys i x (omega arith) is
-
-pub element_of : {A : Type 0} (xs ys : List A) (i : ℕ) (x : A) → xs ≡ ys → i < length xs → x ≡ get_or xs i x → slice_get ys i ≡ Some x
-element_of {A = A} xs ys i x same within is = ap (λ (zs : List A). slice_get zs i) (sym same) ∙ element_at xs i x within is

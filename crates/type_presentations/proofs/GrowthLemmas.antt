@@ -12,7 +12,7 @@ use Rattle.lotos_base.specs.Term.{Term, Terms, variable, node, no_terms, term_th
 use Rattle.lotos_base.specs.Sorting.{HasSort, HaveSorts}
 use Rattle.lotos_base.specs.Equation.{Equation, Data, IsEquationOver, IsWellFormedData}
 use Rattle.sort_terms.specs.ProfiledTerm.{ProfiledTerm, ProfiledTerms, profiled_variable, profiled_node, no_profiled_terms, profiled_term_then, IsOf, AreOf}
-use Rattle.sort_terms.specs.WellFormedTest.{has_known_sorts, are_one_sort, are_one_operation, all_differ, is_well_formed}
+use Rattle.sort_terms.specs.WellFormedTest.{has_known_sorts, are_one_sort, are_one_operation, all_differ, is_well_formed_signature}
 use Rattle.sort_terms.proofs.WellFormedLemmas.{well_formed_test, test_well_formed}
 use Rattle.type_definitions.specs.Presentation.{is_same_sort, is_same_operation, with_new}
 use Rattle.type_presentations.proofs.KeptLemmas.{differ_and_one}
@@ -208,7 +208,7 @@ well_formed_with_sort signature sort fine none =
     let alone : Signature = record { sorts = signature.sorts ++ sort ∷ []; operations = [] } in
     let differ : all_differ are_one_sort (signature.sorts ++ sort ∷ []) ≡ true =
     not-false (all_differ are_one_sort (signature.sorts ++ sort ∷ [])) none in
-    let test : is_well_formed alone ≡ true = rw differ refl in
+    let test : is_well_formed_signature alone ≡ true = rw differ refl in
     let more : length (signature.sorts ++ sort ∷ []) ≡ length signature.sorts + 1 = length-append signature.sorts (sort ∷ []) in record {
       results = λ f o at. let old : o.result < length signature.sorts = fine.results f o at in omega (arith, old, more);
       arguments = λ f i s o at there. let old : s < length signature.sorts = fine.arguments f i s o at there in omega (arith, old, more);
@@ -232,7 +232,7 @@ well_formed_with_operation signature operation fine known none =
     let sorts : all_differ are_one_sort signature.sorts ≡ true = sorts_differ signature fine in
     let all : list_all (has_known_sorts (length signature.sorts)) (signature.operations ++ operation ∷ []) ≡ true =
     all_and_one (has_known_sorts (length signature.sorts)) signature.operations operation (known_sorts signature fine) known in
-    let test : is_well_formed (with_operation_behind signature operation) ≡ true = rw (all, sorts, differ) refl in
+    let test : is_well_formed_signature (with_operation_behind signature operation) ≡ true = rw (all, sorts, differ) refl in
     well_formed_test (with_operation_behind signature operation) test
 
 -- ---- Sides and data over them.

@@ -119,12 +119,6 @@ numbers_stay {A = A} same itself kept (x ∷ xs) =
 
 -- ---- What differs.
 
-or_none : (a b : Bool) → (a || (b || false)) ≡ (b || a)
-or_none true true = refl
-or_none true false = refl
-or_none false true = refl
-or_none false false = refl
-
 shuffle : (a b c d : Bool) → (not (a || (b || false)) && (not c && d)) ≡ (not (b || c) && (not a && d))
 shuffle true true true d = refl
 shuffle true true false d = refl

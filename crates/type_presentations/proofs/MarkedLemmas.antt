@@ -2,20 +2,20 @@
 use Rattle.std.proofs.Common.{◌≡◌, ℕ, zero, suc, ◌+◌, ◌<◌, ◌≤◌, Bool, true, false, List, [], ◌∷◌, map, length, drop, refl, ap, sym, ◌∙◌, arith}
 use Rattle.std.specs.Prelude.{◌||◌, nat_lt, if◌then◌else◌}
 use Rattle.std.proofs.lemmas.Bool.{lt-ltb}
-use Rattle.type_definitions.specs.Presentation.{is_marked}
+use Rattle.type_definitions.specs.Presentation.{is_marked_number}
 use Rattle.type_definitions.specs.Actualisation.{marked_from}
 
 -- whether one from this position on is
 abbrev pub some_marked : {A : Type 0} → List ℕ → ℕ → List A → Bool
 some_marked marks number xs = nat_lt 0 (length (marked_from marks number xs))
 
-pub first_marked : {A : Type 0} (marks : List ℕ) (number : ℕ) (x : A) (xs : List A) → is_marked marks number ≡ true
+pub first_marked : {A : Type 0} (marks : List ℕ) (number : ℕ) (x : A) (xs : List A) → is_marked_number marks number ≡ true
     → some_marked marks number (x ∷ xs) ≡ true
 first_marked {A = A} marks number x xs h =
     let rest : List A = marked_from marks (suc number) xs in
     ap (λ (b : Bool). nat_lt 0 (length (if b then x ∷ rest else rest))) h ∙ lt-ltb 0 (suc (length rest)) (omega arith)
 
-pub first_unmarked : {A : Type 0} (marks : List ℕ) (number : ℕ) (x : A) (xs : List A) → is_marked marks number ≡ false
+pub first_unmarked : {A : Type 0} (marks : List ℕ) (number : ℕ) (x : A) (xs : List A) → is_marked_number marks number ≡ false
     → some_marked marks number (x ∷ xs) ≡ some_marked marks (suc number) xs
 first_unmarked {A = A} marks number x xs h =
     let rest : List A = marked_from marks (suc number) xs in ap (λ (b : Bool). nat_lt 0 (length (if b then x ∷ rest else rest))) h
@@ -27,7 +27,7 @@ marked_images f marks number xs = ap (λ (n : ℕ). nat_lt 0 n) (as_many f marks
     as_many : {A B : Type 0} (f : A → B) (marks : List ℕ) (number : ℕ) (xs : List A)
         → length (marked_from marks number (map f xs)) ≡ length (marked_from marks number xs)
     as_many f marks number [] = refl
-    as_many {A = A} {B = B} f marks number (x ∷ xs) = go (is_marked marks number) (as_many f marks (suc number) xs)
+    as_many {A = A} {B = B} f marks number (x ∷ xs) = go (is_marked_number marks number) (as_many f marks (suc number) xs)
       where
         go : (b : Bool) → length (marked_from marks (suc number) (map f xs)) ≡ length (marked_from marks (suc number) xs)
             → length (if b then f x ∷ marked_from marks (suc number) (map f xs) else marked_from marks (suc number) (map f xs))
@@ -43,19 +43,19 @@ none_left marks k (suc i) [] h = refl
 none_left marks k zero (x ∷ xs) h = absurd (omega arith)
 none_left marks k (suc i) (x ∷ xs) h = none_left marks k i xs (omega arith)
 
-pub some_here : {A : Type 0} (marks : List ℕ) (k i : ℕ) (xs : List A) → i < length xs → is_marked marks k ≡ true
+pub some_here : {A : Type 0} (marks : List ℕ) (k i : ℕ) (xs : List A) → i < length xs → is_marked_number marks k ≡ true
     → some_marked marks k (drop i xs) ≡ true
 some_here marks k i [] h is = absurd (omega arith)
 some_here marks k zero (x ∷ xs) h is = first_marked marks k x xs is
 some_here marks k (suc i) (x ∷ xs) h is = some_here marks k i xs (omega arith) is
 
-next : {A : Type 0} (marks : List ℕ) (k i : ℕ) (xs : List A) → i < length xs → is_marked marks k ≡ false
+next : {A : Type 0} (marks : List ℕ) (k i : ℕ) (xs : List A) → i < length xs → is_marked_number marks k ≡ false
     → some_marked marks k (drop i xs) ≡ some_marked marks (suc k) (drop (suc i) xs)
 next marks k i [] h is = absurd (omega arith)
 next marks k zero (x ∷ xs) h is = first_unmarked marks k x xs is
 next marks k (suc i) (x ∷ xs) h is = next marks k i xs (omega arith) is
 
-pub not_here : {A : Type 0} (marks : List ℕ) (i : ℕ) (xs : List A) → i < length xs → is_marked marks i ≡ false
+pub not_here : {A : Type 0} (marks : List ℕ) (i : ℕ) (xs : List A) → i < length xs → is_marked_number marks i ≡ false
     → some_marked marks i (drop i xs) ≡ some_marked marks (i + 1) (drop (i + 1) xs)
 not_here marks i xs h is = let one : i + 1 ≡ suc i = omega arith in rw one (next marks i i xs h is)
 

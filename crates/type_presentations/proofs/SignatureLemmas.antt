@@ -16,7 +16,7 @@ use Rattle.sort_terms.proofs.WellFormedLemmas.{well_formed_test, test_well_forme
 use Rattle.type_definitions.specs.ProfiledImage.{profile_in}
 use Rattle.type_definitions.specs.ImageLaws.{IsSignatureMap}
 use Rattle.type_definitions.specs.Presentation.{nothing}
-use Rattle.type_definitions.specs.Flattened.{data_of}
+use Rattle.type_definitions.specs.Flattened.{flattened_data_of}
 use Rattle.type_presentations.specs.EquationListView.{HaveSidesOf}
 use Rattle.type_presentations.proofs.EquationImageLemmas.{image_over, identity_image}
 
@@ -98,7 +98,7 @@ over_larger old new e larger over =
 
 -- ---- Nothing at all.
 
-pub nothing_well_formed : IsWellFormedData (data_of nothing)
+pub nothing_well_formed : IsWellFormedData (flattened_data_of nothing)
 nothing_well_formed = record {
   signature = made_well_formed nothing.signature (λ f o at. absurd (none-some o at)) (λ f i s o at there. absurd (none-some o at))
       refl refl;

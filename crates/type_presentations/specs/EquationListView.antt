@@ -9,7 +9,7 @@ use Rattle.sort_terms.specs.SortedView.{profiled_in}
 use Rattle.sort_terms.specs.declared.equations.Equation.{Equation as CodeEquation}
 use Rattle.type_definitions.specs.ProfiledImage.{KeepsProfiles, profiled_image}
 use Rattle.type_definitions.specs.Presentation.{with_new}
-use Rattle.type_presentations.specs.KeyView.{keys_in}
+use Rattle.type_presentations.specs.KeyView.{keys_in_set}
 use Rattle.type_presentations.specs.EquationKeys.{equation_key}
 use Rattle.type_presentations.specs.declared.equation_list.EquationList.{EquationList}
 
@@ -19,7 +19,7 @@ equations_in list = map equation_of list.equations.items
 
 -- The keys are those of the equations, each once.
 abbrev pub HasEquationKeys : EquationList → Type 0
-HasEquationKeys list = keys_in list.keys ≡ with_new bytes_eq [] (map equation_key (equations_in list))
+HasEquationKeys list = keys_in_set list.keys ≡ with_new bytes_eq [] (map equation_key (equations_in list))
 
 -- Each operation in the sides of the equations becomes one whose sorts are the images of its own.
 abbrev pub AllKeepProfiles : (ℕ → ℕ) → (ℕ → ℕ) → List Operation → List CodeEquation → Type 0

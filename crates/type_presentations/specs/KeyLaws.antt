@@ -13,7 +13,8 @@ use Rattle.lotos_base.proofs.Truth.{same_truth}
 use Rattle.sort_terms.specs.WellFormedTest.{are_one_sort, are_one_operation}
 use Rattle.sort_terms.proofs.NodeLemmas.{forms_eq, eq_forms}
 use Rattle.type_definitions.specs.Presentation.{is_same_sort, is_same_operation}
-use Rattle.type_presentations.specs.Keys.{name_key, sort_key, form_number, profile_key, twin_key, operation_key, KeysTell}
+use Rattle.sort_terms.specs.TermCode.{form_number}
+use Rattle.type_presentations.specs.Keys.{name_key, sort_key, profile_key, twin_key, operation_key, KeysTell}
 
 -- ---- Lists and tests.
 

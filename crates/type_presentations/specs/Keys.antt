@@ -2,9 +2,10 @@
 -- or one name, form and profile, or one name, form and argument sorts.
 use Rattle.std.specs.Prelude.{◌≡◌, ◌↔◌, ℕ, true, List, ◌∷◌, ◌++◌, length}
 use Rattle.lotos_base.specs.Names.{folded}
-use Rattle.lotos_base.specs.Signature.{Sort, Operation, Form, prefix_form, infix_form}
+use Rattle.lotos_base.specs.Signature.{Sort, Operation}
 use Rattle.sort_terms.specs.WellFormedTest.{are_one_sort, are_one_operation}
 use Rattle.type_definitions.specs.Presentation.{is_same_sort, is_same_operation}
+use Rattle.sort_terms.specs.TermCode.{form_number}
 
 -- a sort by its name
 abbrev pub name_key : Sort → List ℕ
@@ -13,10 +14,6 @@ name_key sort = folded sort.name
 -- a sort by its name and origin
 abbrev pub sort_key : Sort → List ℕ
 sort_key sort = length sort.name ∷ (folded sort.name ++ folded sort.origin)
-
-abbrev pub form_number : Form → ℕ
-form_number prefix_form = 0
-form_number infix_form = 1
 
 -- an operation by its name, form and profile
 abbrev pub profile_key : Operation → List ℕ

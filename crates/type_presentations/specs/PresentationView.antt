@@ -2,7 +2,7 @@
 use Rattle.std.specs.Prelude.{◌≡◌, false}
 use Rattle.lotos_base.specs.Equation.{IsWellFormedData}
 use Rattle.type_definitions.specs.Presentation.{Presentation as PlainPresentation, is_too_large}
-use Rattle.type_definitions.specs.Flattened.{data_of}
+use Rattle.type_definitions.specs.Flattened.{flattened_data_of}
 use Rattle.type_presentations.specs.SortListView.{HasSortKeys, sorts_in}
 use Rattle.type_presentations.specs.OperationListView.{HasOperationKeys, operations_in}
 use Rattle.type_presentations.specs.EquationListView.{HasEquationKeys, HaveSidesOf, equations_in}
@@ -26,7 +26,7 @@ pub record IsSound (p : Presentation) : Type 0 where
   pub formal_sorts : IsKnown p.formal_sorts
   pub formal_ops : IsKnown p.formal_ops
   pub sides : HaveSidesOf (presentation_of p).signature p.equations.equations.items
-  pub data_ : IsWellFormedData (data_of (presentation_of p))
+  pub data_ : IsWellFormedData (flattened_data_of (presentation_of p))
 
 -- It has no more sorts, operations and equations than it may.
 abbrev pub IsWithinLimits : Presentation → Type 0

@@ -6,7 +6,7 @@ ghost use Rattle.type_presentations.specs.EquationKeys.{
   terms_key,
 };
 ghost use Rattle.sort_terms.specs.EquationView.{equation_of};
-ghost use Rattle.sort_terms.specs.TermView.{term_of, terms_of};
+ghost use Rattle.sort_terms.specs.TermView.{term_of, bare_terms_of};
 ghost use Rattle.std.specs.Prelude.{◌≡◌, ◌∷◌, ◌++◌, [], IfOk, OnOk};
 
 use lotos_base::NoMemory;
@@ -50,7 +50,8 @@ fn push_term(key: &mut Vec<usize>, term: &Term) -> Result<(), NoMemory>
 // Adds the nodes of each term of the list, and its end.
 #[cycle(keys)]
 fn push_terms(key: &mut Vec<usize>, terms: &Vec<Term>) -> Result<(), NoMemory>
-    ensures { OnOk result (key.new.items ≡ key.old.items ++ terms_key (terms_of terms.now.items)) }
+    ensures { OnOk result (key.new.items ≡ key.old.items
+        ++ terms_key (bare_terms_of terms.now.items)) }
 {
     for term in terms {
         key.push(1)?;

@@ -32,11 +32,11 @@ pub struct Placed {
 }
 
 impl KeySet {
-    ghost use Rattle.type_presentations.specs.KeyView.{keys_in};
+    ghost use Rattle.type_presentations.specs.KeyView.{keys_in_set};
 
     /// No keys.
     pub fn new(alloc: Global) -> KeySet
-        ensures { keys_in result ≡ [] }
+        ensures { keys_in_set result ≡ [] }
     {
         KeySet {
             keys: IndexSet::new(alloc),
@@ -45,12 +45,12 @@ impl KeySet {
 
     /// Adds a key at the end. A key that is there stays alone.
     pub fn add(&mut self, key: Vec<usize>) -> Result<Placed, NoMemory>
-        ensures keys { OnOk result (keys_in self.new
-            ≡ with_new bytes_eq (keys_in self.old) (key.items ∷ [])) }
+        ensures keys { OnOk result (keys_in_set self.new
+            ≡ with_new bytes_eq (keys_in_set self.old) (key.items ∷ [])) }
         ensures number { IfOk result (λ placed. placed.number
-            ≡ first_position (bytes_eq key.items) (keys_in self.new)) }
+            ≡ first_position (bytes_eq key.items) (keys_in_set self.new)) }
         ensures is_new { IfOk result (λ placed. placed.is_new
-            ≡ not (list_any (bytes_eq key.items) (keys_in self.old))) }
+            ≡ not (list_any (bytes_eq key.items) (keys_in_set self.old))) }
     {
         let (number, is_new) = self.keys.insert_full(key)?;
         Ok(Placed { number, is_new })

@@ -2,8 +2,8 @@
 
 ghost use Rattle.lotos_base.specs.Name.{folded, spelling};
 ghost use Rattle.lotos_base.specs.WrittenView.{form_of};
+ghost use Rattle.sort_terms.specs.TermCode.{form_number as number_of_form};
 ghost use Rattle.type_presentations.specs.Keys.{
-  form_number as number_of_form,
   profile_key as key_of_profile,
   twin_key as key_of_twins,
 };

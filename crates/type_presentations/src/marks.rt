@@ -1,7 +1,7 @@
 //! Marks of what is formal.
 
 ghost use Rattle.std.specs.Prelude.{◌≡◌, ◌∷◌, ◌++◌, [], OnOk, map, nat_eq};
-ghost use Rattle.type_definitions.specs.Presentation.{is_marked, with_new};
+ghost use Rattle.type_definitions.specs.Presentation.{is_marked_number, with_new};
 ghost use Rattle.type_definitions.specs.ProfiledImage.{number_in};
 
 use indexmap::IndexSet;
@@ -40,7 +40,7 @@ impl Marks {
     /// Whether the number is marked.
     pub fn has(&self, number: u32) -> bool
         requires { IsKnown self.now }
-        ensures { result ≡ is_marked (marks_in self.now) number }
+        ensures { result ≡ is_marked_number (marks_in self.now) number }
     {
         self.known.contains(&number)
     }

@@ -1,6 +1,6 @@
 //! Members of a signature, each once.
 
-ghost use Rattle.type_presentations.specs.KeyView.{keys_in};
+ghost use Rattle.type_presentations.specs.KeyView.{keys_in_set};
 ghost use Rattle.std.specs.Prelude.{
   ◌≡◌,
   ◌+◌,
@@ -149,14 +149,14 @@ impl<T: Keyed> MemberList<T> {
     // Adds a member at the end, whose key is there, and answers whether it clashes.
     fn append(&mut self, alloc: Global, member: T) -> Result<bool, NoMemory>
         ensures keys { OnOk result (self.new.keys ≡ self.old.keys) }
-        ensures clash_keys { OnOk result (keys_in self.new.clash_keys
-            ≡ with_new bytes_eq (keys_in self.old.clash_keys)
+        ensures clash_keys { OnOk result (keys_in_set self.new.clash_keys
+            ≡ with_new bytes_eq (keys_in_set self.old.clash_keys)
             (T.clash_key_of (T.plain member) ∷ [])) }
         ensures members { OnOk result (members_by T.plain self.new
             ≡ members_by T.plain self.old ++ T.plain member ∷ []) }
         ensures clashes { IfOk result (λ clashes. clashes
             ≡ list_any (bytes_eq (T.clash_key_of (T.plain member)))
-            (keys_in self.old.clash_keys)) }
+            (keys_in_set self.old.clash_keys)) }
     {
         let placed = self.clash_keys.add(member.clash_key(alloc)?)?;
         self.members.push(member)?;

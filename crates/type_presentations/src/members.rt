@@ -28,7 +28,7 @@ ghost use Rattle.type_definitions.specs.Presentation.{
   is_same_operation,
   is_same_sort,
 };
-ghost use Rattle.type_definitions.specs.Union.{operation_in, sort_in};
+ghost use Rattle.type_definitions.specs.Union.{operation_place_in, sort_place_in};
 ghost use Rattle.type_definitions.specs.Images.{operation_image};
 ghost use Rattle.type_definitions.specs.ProfiledImage.{number_in};
 
@@ -97,7 +97,7 @@ impl Keyed for Sort {
 
     ghost image_by = { λ _ sort. sort };
 
-    ghost place_in = { sort_in };
+    ghost place_in = { sort_place_in };
 
     ghost same_keys = { keys_tell.sorts };
 
@@ -141,7 +141,7 @@ impl Keyed for Rc<Op> {
 
     ghost image_by = { operation_image };
 
-    ghost place_in = { operation_in };
+    ghost place_in = { operation_place_in };
 
     ghost same_keys = { keys_tell.operations };
 

@@ -17,12 +17,7 @@ use Rattle.type_definitions.specs.DeclaredEquations.{with_equation}
 use Rattle.type_renaming.specs.Parts.{KeepsProfilesOf, with_equations}
 use Rattle.type_renaming.specs.SameNumbers.{KeepNumbers}
 
--- ---- Members that stay.
-
 -- ---- Numbers from 0 on.
-
-pub numbers_begin : (xs : List ℕ) → (n : ℕ) → n < 0 → number_in xs n ≡ n
-numbers_begin xs n h = absurd (omega (arith, h))
 
 pub numbers_go : (made more : List ℕ) (count : ℕ) → length made ≡ count → ((n : ℕ) → n < count → number_in made n ≡ n)
     → more ≡ made ++ count ∷ [] → (n : ℕ) → n < count + 1 → number_in more n ≡ n

@@ -14,7 +14,7 @@ use Rattle.sort_terms.specs.Operations.{operation_of}
 use Rattle.sort_terms.specs.declared.operations.Op.{Op}
 use Rattle.sort_terms.specs.WellFormedTest.{has_known_sorts}
 use Rattle.type_definitions.specs.Presentation.{Presentation, is_too_large, presentation_limit}
-use Rattle.type_definitions.specs.Renaming.{pair_for, operation_under, renamed_sort, renamed_operation, renaming}
+use Rattle.type_definitions.specs.Renaming.{pair_for, operation_under, renamed_sort, renamed_operation, renamed_presentation}
 use Rattle.type_presentations.proofs.SizeLemmas.{within_limits}
 use Rattle.type_renaming.specs.Parts.{KeepsProfilesOf, sorts_alone, with_these_operations}
 
@@ -54,9 +54,9 @@ images_at_most g f xs n limit few =
     omega (arith, mapped, taken, few)
 
 pub sorts_are_few : {A : Type 0} (type_name : List ℕ) (pairs : WrittenPairs) (f : A → Sort) (xs : List A) (n : ℕ)
-    → length xs ≤ presentation_limit → is_too_large (renaming (sorts_alone (map f (take n xs))) type_name pairs) ≡ false
+    → length xs ≤ presentation_limit → is_too_large (renamed_presentation (sorts_alone (map f (take n xs))) type_name pairs) ≡ false
 sorts_are_few type_name pairs f xs n few =
-    is_small (renaming (sorts_alone (map f (take n xs))) type_name pairs)
+    is_small (renamed_presentation (sorts_alone (map f (take n xs))) type_name pairs)
     (images_at_most (renamed_sort type_name pairs) f xs n presentation_limit few) (nothing_beyond presentation_limit 0 refl)
     (nothing_beyond presentation_limit 0 refl)
 

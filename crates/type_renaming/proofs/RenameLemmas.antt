@@ -6,7 +6,7 @@ use Rattle.lotos_base.specs.Signature.{Sort, Operation}
 use Rattle.syntax_trees.specs.WrittenItem.{WrittenPair, WrittenPairs}
 use Rattle.type_definitions.specs.TypeFault.{TypeFault, first_fault}
 use Rattle.type_definitions.specs.Presentation.{Presentation, is_too_large}
-use Rattle.type_definitions.specs.Renaming.{renaming, renaming_fault, renamed_sort, renamed_operation, renamed_sort_clash, renamed_operation_clash, sort_pairs_fault, operation_pairs_fault}
+use Rattle.type_definitions.specs.Renaming.{renamed_presentation, renaming_fault, renamed_sort, renamed_operation, renamed_sort_clash, renamed_operation_clash, sort_pairs_fault, operation_pairs_fault}
 use Rattle.type_renaming.specs.Parts.{sorts_alone, with_these_operations, with_equations, with_marks}
 use Rattle.type_renaming.proofs.PartLemmas.{as_large}
 
@@ -54,7 +54,7 @@ completed_within u qs base one sorts alone within =
     (ap (λ (p : Presentation). length (p.equations ++ base.equations)) alone) within
 
 pub whole_image : (t u : List ℕ) (ps qs : WrittenPairs) (base one four : Presentation) (ss : List Sort) → ss ≡ base.signature.sorts
-    → one ≡ renaming (sorts_alone ss) t ps
+    → one ≡ renamed_presentation (sorts_alone ss) t ps
     → four
     ≡ with_marks (with_equations (with_these_operations one (map (renamed_operation u qs) base.signature.operations)) base.equations)
     base.formal_sorts base.formal_operations
@@ -103,7 +103,7 @@ clashes_are t base ps qs sorts operations none no_other same_sorts same_operatio
 
 pub images_are : (t : List ℕ) (base : Presentation) (ps qs sorts operations : List WrittenPair) → ps ≡ sorts → qs ≡ operations
     → with_images t (sorts_by ps) t (operations_by qs) base base.signature.sorts base.signature.operations
-    ≡ renaming base t (both_by sorts operations)
+    ≡ renamed_presentation base t (both_by sorts operations)
 images_are t base ps qs sorts operations same_sorts same_operations =
     ap (λ (xs : List WrittenPair).
     with_images t (sorts_by xs) t (operations_by qs) base base.signature.sorts base.signature.operations)

@@ -2,7 +2,7 @@
 use Rattle.std.specs.Prelude.{◌≡◌, ℕ, List, None}
 use Rattle.syntax_trees.specs.WrittenItem.{WrittenPairs}
 use Rattle.type_definitions.specs.Presentation.{Presentation as PlainPresentation}
-use Rattle.type_definitions.specs.Renaming.{renaming, renaming_fault}
+use Rattle.type_definitions.specs.Renaming.{renamed_presentation, renaming_fault}
 use Rattle.type_definitions.specs.FaultView.{IsFaultFound}
 use Rattle.type_definitions.specs.declared.type_faults.TypeFault.{TypeFault}
 use Rattle.type_presentations.specs.PresentationView.{IsSound, IsWithinLimits, presentation_of}
@@ -12,7 +12,7 @@ use Rattle.type_presentations.specs.declared.presentations.Presentation.{Present
 -- renaming, sound and within the limits.
 pub record IsRenamed (base : PlainPresentation) (type_name : List ℕ) (pairs : WrittenPairs) (p : Presentation) : Type 0 where
   pub none : renaming_fault base type_name pairs ≡ None
-  pub made : presentation_of p ≡ renaming base type_name pairs
+  pub made : presentation_of p ≡ renamed_presentation base type_name pairs
   pub sound : IsSound p
   pub within : IsWithinLimits p
 

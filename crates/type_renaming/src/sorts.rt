@@ -25,7 +25,7 @@ ghost use Rattle.type_definitions.specs.Renaming.{
   pair_for,
   renamed_sort,
   renamed_sort_clash,
-  renaming,
+  renamed_presentation,
 };
 ghost use Rattle.type_pairs.specs.PairIndexView.{pairs_in};
 ghost use Rattle.type_presentations.specs.PresentationView.{
@@ -57,7 +57,7 @@ pub fn rename_sorts(
     ensures { MatchResult result
         (λ p. IsMade (renamed_sort_clash (sorts_alone (map sort_of base.now))
         (type_name_in renamer.now) (sort_pairs_in renamer.now))
-        (renaming (sorts_alone (map sort_of base.now)) (type_name_in renamer.now)
+        (renamed_presentation (sorts_alone (map sort_of base.now)) (type_name_in renamer.now)
         (sort_pairs_in renamer.now)) p)
         (λ fault. IsFaultFound (renamed_sort_clash (sorts_alone (map sort_of base.now))
         (type_name_in renamer.now) (sort_pairs_in renamer.now)) fault) }

@@ -10,8 +10,8 @@ use Rattle.type_definitions.specs.Images.{operation_image, equation_image}
 use Rattle.type_definitions.specs.ProfiledImage.{number_in}
 use Rattle.type_definitions.specs.TypeFault.{TypeFault, double_sort, double_operation, too_large}
 use Rattle.type_definitions.specs.Presentation.{Presentation, has_sort_clash, has_operation_clash, is_too_large, with_new, is_same_sort, is_same_operation, is_same_equation}
-use Rattle.type_definitions.specs.Union.{Mentioned, with_mentioned, mention_fault, joined, joined_sort, joined_operation, sort_in, operation_in}
-use Rattle.type_definitions.specs.Flattened.{data_of}
+use Rattle.type_definitions.specs.Union.{Mentioned, with_mentioned, mention_fault, joined_presentation, joined_sort, joined_operation, sort_place_in, operation_place_in}
+use Rattle.type_definitions.specs.Flattened.{flattened_data_of}
 use Rattle.type_presentations.specs.EquationListView.{AllKeepProfiles, HaveSidesOf, ImagesAreOf}
 use Rattle.type_definitions.proofs.HoldsLemmas.{holds_weaker}
 use Rattle.type_definitions.specs.FaultView.{HoldsOfFault}
@@ -32,7 +32,7 @@ use Rattle.type_unions.proofs.JoinLemmas.{maps_of_union, sorts_clash, operations
 -- the new sorts, their numbers, and whether one of them clashes
 pub record SortsCame (p q : Presentation) (numbers : List ℕ) (new : List Sort) (clash : Bool) : Type 0 where
   pub these : new ≡ with_new is_same_sort p.signature.sorts q.signature.sorts
-  pub numbered : (n : ℕ) → number_in numbers n ≡ sort_in new (slice_get q.signature.sorts n)
+  pub numbered : (n : ℕ) → number_in numbers n ≡ sort_place_in new (slice_get q.signature.sorts n)
   pub told : all_differ are_one_sort new ≡ (not clash && all_differ are_one_sort p.signature.sorts)
 
 -- the new operations over the numbers of the sorts
@@ -40,7 +40,7 @@ pub record OperationsCame (p q : Presentation) (sorts numbers : List ℕ) (new :
   pub these : new
       ≡ with_new is_same_operation p.signature.operations (map (operation_image (number_in sorts)) q.signature.operations)
   pub numbered : (n : ℕ) → number_in numbers n
-      ≡ operation_in new (slice_get (map (operation_image (number_in sorts)) q.signature.operations) n)
+      ≡ operation_place_in new (slice_get (map (operation_image (number_in sorts)) q.signature.operations) n)
   pub told : all_differ are_one_operation new ≡ (not clash && all_differ are_one_operation p.signature.operations)
 
 -- the equations and marks
@@ -59,20 +59,20 @@ themselves (s ∷ ss) = ap (λ (ts : List Sort). s ∷ ts) (themselves ss)
 -- the numbers that are taken are those that came
 pub sorts_came : (p q : Presentation) (taken numbers : List ℕ) (new : List Sort) (clash : Bool) → taken ≡ numbers
     → new ≡ with_new is_same_sort p.signature.sorts (map (λ s. s) q.signature.sorts)
-    → ((n : ℕ) → number_in numbers n ≡ sort_in new (slice_get (map (λ s. s) q.signature.sorts) n))
+    → ((n : ℕ) → number_in numbers n ≡ sort_place_in new (slice_get (map (λ s. s) q.signature.sorts) n))
     → all_differ are_one_sort new ≡ (not clash && all_differ are_one_sort p.signature.sorts) → SortsCame p q taken new clash
 sorts_came p q taken numbers new clash are these numbered told = record {
   these = these ∙ ap (λ (ss : List Sort). with_new is_same_sort p.signature.sorts ss) (themselves q.signature.sorts);
   numbered = λ n.
       ap (λ (ns : List ℕ). number_in ns n) are ∙ numbered n
-      ∙ ap (λ (ss : List Sort). sort_in new (slice_get ss n)) (themselves q.signature.sorts);
+      ∙ ap (λ (ss : List Sort). sort_place_in new (slice_get ss n)) (themselves q.signature.sorts);
   told = told;
 }
 
 pub operations_came : (p q : Presentation) (sorts taken numbers : List ℕ) (new : List Operation) (clash : Bool) → taken ≡ numbers
     → new ≡ with_new is_same_operation p.signature.operations (map (operation_image (number_in sorts)) q.signature.operations)
     → ((n : ℕ) → number_in numbers n
-    ≡ operation_in new (slice_get (map (operation_image (number_in sorts)) q.signature.operations) n))
+    ≡ operation_place_in new (slice_get (map (operation_image (number_in sorts)) q.signature.operations) n))
     → all_differ are_one_operation new ≡ (not clash && all_differ are_one_operation p.signature.operations)
     → OperationsCame p q sorts taken new clash
 operations_came p q sorts taken numbers new clash are these numbered told = record {
@@ -84,7 +84,7 @@ operations_came p q sorts taken numbers new clash are these numbered told = reco
 -- ---- Sorts and operations.
 
 clash_of_sorts : (p q : Presentation) (numbers : List ℕ) (new : List Sort) (clash : Bool) → IsWellFormedSignature p.signature
-    → SortsCame p q numbers new clash → has_sort_clash (joined p q) ≡ clash
+    → SortsCame p q numbers new clash → has_sort_clash (joined_presentation p q) ≡ clash
 clash_of_sorts p q numbers new clash fine came = sorts_clash p q new clash fine came.these came.told
 
 maps_are : (p q : Presentation) (sorts operations : List ℕ) (new_sorts : List Sort) (new : List Operation) (one other : Bool)
@@ -95,7 +95,7 @@ maps_are p q sorts operations new_sorts new one other came these =
 
 clash_of_operations : (p q : Presentation) (sorts operations : List ℕ) (new_sorts : List Sort) (new : List Operation)
     (one other : Bool) → IsWellFormedSignature p.signature → SortsCame p q sorts new_sorts one
-    → OperationsCame p q sorts operations new other → has_operation_clash (joined p q) ≡ other
+    → OperationsCame p q sorts operations new other → has_operation_clash (joined_presentation p q) ≡ other
 clash_of_operations p q sorts operations new_sorts new one other fine came these =
     operations_clash p q new other fine (maps_are p q sorts operations new_sorts new one other came these).profiles_are these.told
 
@@ -123,10 +123,10 @@ all_maps p q sorts operations one other new all =
     all.sorts_came all.operations_came
 
 whole : (p q : Presentation) (sorts operations : List ℕ) (one other : Bool) (new : CodePresentation)
-    → AllCame p q sorts operations one other new → presentation_of new ≡ joined p q
+    → AllCame p q sorts operations one other new → presentation_of new ≡ joined_presentation p q
 whole p q sorts operations one other new all =
     let maps = all_maps p q sorts operations one other new all in
-    of_parts (presentation_of new) (joined p q) (record {
+    of_parts (presentation_of new) (joined_presentation p q) (record {
       sorts = all.sorts_came.these;
       operations = maps.profiles_are;
       equations = equations_joined p q sorts operations (presentation_of new).signature.operations (presentation_of new).equations maps
@@ -140,8 +140,8 @@ whole p q sorts operations one other new all =
 -- what is so of the two that are joined, and of the sides that came
 pub record AreFine (p q : Presentation) (sorts operations : List ℕ) (old coming : List CodeEquation) (new : CodePresentation)
     : Type 0 where
-  pub first : IsWellFormedData (data_of p)
-  pub second : IsWellFormedData (data_of q)
+  pub first : IsWellFormedData (flattened_data_of p)
+  pub second : IsWellFormedData (flattened_data_of q)
   pub first_sides : HaveSidesOf p.signature old
   pub second_sides : HaveSidesOf q.signature coming
   pub sides_come : (signature : Signature) → HaveSidesOf signature old
@@ -151,11 +151,11 @@ pub record AreFine (p q : Presentation) (sorts operations : List ℕ) (old comin
 
 sound_together : (p q : Presentation) (sorts operations : List ℕ) (one other : Bool) (old coming : List CodeEquation)
     (new : CodePresentation) → AreFine p q sorts operations old coming new → AllCame p q sorts operations one other new
-    → has_sort_clash (joined p q) ≡ false → has_operation_clash (joined p q) ≡ false → IsSound new
+    → has_sort_clash (joined_presentation p q) ≡ false → has_operation_clash (joined_presentation p q) ≡ false → IsSound new
 sound_together p q sorts operations one other old coming new fine all no_sorts no_operations =
-    sound_union new (joined p q) fine.keyed (whole p q sorts operations one other new all)
-    (fine.sides_come (joined p q).signature
-    (sides_of_larger p.signature (joined p q).signature old (union_is_larger p q) fine.first_sides)
+    sound_union new (joined_presentation p q) fine.keyed (whole p q sorts operations one other new all)
+    (fine.sides_come (joined_presentation p q).signature
+    (sides_of_larger p.signature (joined_presentation p q).signature old (union_is_larger p q) fine.first_sides)
     (images_by_lists p q sorts operations (presentation_of new).signature.operations coming
     (all_maps p q sorts operations one other new all) fine.second_sides))
     (union_data p q fine.first fine.second (not-false _ no_sorts) (not-false _ no_operations))

@@ -9,8 +9,7 @@ use Rattle.lotos_base.proofs.Members.{before_or_last}
 use Rattle.sort_terms.specs.ReadingOutcome.{one_name}
 use Rattle.type_definitions.specs.Presentation.{Presentation, nothing, first_position}
 use Rattle.type_definitions.specs.Union.{Mentioned}
-use Rattle.type_definitions.specs.Flattened.{presentation_named, without_formals}
-use Rattle.type_definitions.specs.Actualisation.{is_formal}
+use Rattle.type_definitions.specs.Flattened.{presentation_named}
 use Rattle.type_presentations.specs.PositionOfName.{position_of_name}
 use Rattle.type_presentations.specs.NamesView.{HasNames}
 use Rattle.type_unions.specs.MentionView.{AreSoundMentions}
@@ -84,25 +83,6 @@ pub none_mentioned : {A : Type 0} (P : A → Type 0) (xs : List A) → xs ≡ []
 none_mentioned {A = A} P xs is i x found =
     absurd (none-some x (sym (ap (λ (ys : List A). slice_get ys i) is) ∙ found))
 
--- ---- Without formals.
-
-pub without_formals-append : (xs ys : List Mentioned)
-    → without_formals (xs ++ ys) ≡ without_formals xs ++ without_formals ys
-without_formals-append [] ys = refl
-without_formals-append (x ∷ xs) ys = go (is_formal x.presentation) (without_formals-append xs ys)
-  where
-    go : (b : Bool) → without_formals (xs ++ ys) ≡ without_formals xs ++ without_formals ys
-        → (if b then without_formals (xs ++ ys) else x ∷ without_formals (xs ++ ys))
-        ≡ (if b then without_formals xs else x ∷ without_formals xs) ++ without_formals ys
-    go true rest = rest
-    go false rest = ap (λ (ms : List Mentioned). x ∷ ms) rest
-
-pub formal_left_out : (m : Mentioned) → is_formal m.presentation ≡ true → without_formals (m ∷ []) ≡ []
-formal_left_out m h = rw h refl
-
-pub informal_stays : (m : Mentioned) → is_formal m.presentation ≡ false → without_formals (m ∷ []) ≡ m ∷ []
-informal_stays m h = rw h refl
-
 -- ---- One more type.
 
 pub with_one_more : (old new : PresentedTypes) (x : PresentedType) → new.types.items ≡ old.types.items ++ x ∷ []
@@ -121,12 +101,6 @@ with_one_more old new x grown named same sound fine =
 
 -- ---- By number.
 
-pub at_number : (items : List PresentedType) (n : ℕ) (x : PresentedType) → slice_get items n ≡ Some x
-    → presentation_of x.presentation ≡ presentation_at (slice_get (map presented_of items) n)
-at_number items n x found =
-    sym (ap presentation_at (slice_get-map presented_of items n
-    ∙ ap (λ (o : Option PresentedType). option_map presented_of o) found))
-
 pub at_no_number : (items : List PresentedType) (n : ℕ) (p : Presentation) → slice_get items n ≡ None → p ≡ nothing
     → p ≡ presentation_at (slice_get (map presented_of items) n)
 at_no_number items n p none is =
@@ -135,12 +109,6 @@ at_no_number items n p none is =
     ∙ ap (λ (o : Option PresentedType). option_map presented_of o) none))
 
 -- ---- Mentions that are made one by one.
-
-pub no_mentions : (ms : List Mention) → ms ≡ [] → AreSoundMentions ms
-no_mentions ms none = record {
-  sound = λ i m found. absurd (none-some m (sym (ap (λ (xs : List Mention). slice_get xs i) none) ∙ found));
-  within = λ i m found. absurd (none-some m (sym (ap (λ (xs : List Mention). slice_get xs i) none) ∙ found));
-}
 
 pub one_mention_more : (old new : List Mention) (m : Mention) → new ≡ old ++ m ∷ [] → AreSoundMentions old
     → IsSoundPresentation m.presentation.now → AreSoundMentions new

@@ -10,8 +10,8 @@ use Rattle.type_definitions.specs.Images.{equation_image}
 use Rattle.type_definitions.specs.ProfiledImage.{number_in}
 use Rattle.type_definitions.proofs.ImageLemmas.{image_of_signature, keeps_profiles}
 use Rattle.type_definitions.specs.Presentation.{Presentation}
-use Rattle.type_definitions.specs.Flattened.{data_of}
-use Rattle.type_definitions.specs.Union.{joined, joined_sort, joined_operation}
+use Rattle.type_definitions.specs.Flattened.{flattened_data_of}
+use Rattle.type_definitions.specs.Union.{joined_presentation, joined_sort, joined_operation}
 use Rattle.type_definitions.proofs.WithNewLemmas.{first_appearances}
 use Rattle.type_presentations.specs.EquationListView.{AllKeepProfiles, HaveSidesOf, ImagesAreOf}
 use Rattle.type_presentations.proofs.EquationImageLemmas.{image_over}
@@ -20,20 +20,21 @@ use Rattle.type_unions.proofs.UnionSignatures.{union_is_larger, union_maps, imag
 
 -- ---- Well-formed data.
 
-pub union_data : (p q : Presentation) → IsWellFormedData (data_of p) → IsWellFormedData (data_of q)
-    → all_differ are_one_sort (joined p q).signature.sorts ≡ true
-    → all_differ are_one_operation (joined p q).signature.operations ≡ true → IsWellFormedData (data_of (joined p q))
+pub union_data : (p q : Presentation) → IsWellFormedData (flattened_data_of p) → IsWellFormedData (flattened_data_of q)
+    → all_differ are_one_sort (joined_presentation p q).signature.sorts ≡ true
+    → all_differ are_one_operation (joined_presentation p q).signature.operations ≡ true
+    → IsWellFormedData (flattened_data_of (joined_presentation p q))
 union_data p q one other sorts operations = record {
   signature = union_well_formed p q one.signature other.signature sorts operations;
   equations = λ e at.
       elim (first_appearances.equations.adds_nothing p.equations
       (map (equation_image (joined_sort p q) (joined_operation p q)) q.equations) e at) [
         | inl first ↦
-            over_larger p.signature (joined p q).signature e (union_is_larger p q) (one.equations e first)
+            over_larger p.signature (joined_presentation p q).signature e (union_is_larger p q) (one.equations e first)
         | inr coming ↦
             (let before = image_in (equation_image (joined_sort p q) (joined_operation p q)) q.equations e coming in
-            subst (λ (x : Equation). IsEquationOver (joined p q).signature x) before.2
-            (image_over q.signature (joined p q).signature (joined_sort p q) (joined_operation p q) before.0 (union_maps p q)
+            subst (λ (x : Equation). IsEquationOver (joined_presentation p q).signature x) before.2
+            (image_over q.signature (joined_presentation p q).signature (joined_sort p q) (joined_operation p q) before.0 (union_maps p q)
             (other.equations before.0 before.1)))
       ];
 }
@@ -41,22 +42,23 @@ union_data p q one other sorts operations = record {
 -- ---- Sides.
 
 all_keep : (p q : Presentation) (es : List CodeEquation) → HaveSidesOf q.signature es
-    → AllKeepProfiles (joined_sort p q) (joined_operation p q) (joined p q).signature.operations es
+    → AllKeepProfiles (joined_sort p q) (joined_operation p q) (joined_presentation p q).signature.operations es
 all_keep p q es have i e found =
     let sides = have i e found in (
-      keeps_profiles q.signature (joined p q).signature (joined_sort p q) (joined_operation p q) (profiled_in e.left)
+      keeps_profiles q.signature (joined_presentation p q).signature (joined_sort p q) (joined_operation p q) (profiled_in e.left)
           (union_maps p q) sides.0,
-      keeps_profiles q.signature (joined p q).signature (joined_sort p q) (joined_operation p q) (profiled_in e.right)
+      keeps_profiles q.signature (joined_presentation p q).signature (joined_sort p q) (joined_operation p q) (profiled_in e.right)
           (union_maps p q) sides.1,
     )
 
 all_images : (p q : Presentation) (es : List CodeEquation) → HaveSidesOf q.signature es
-    → ImagesAreOf (joined_sort p q) (joined_operation p q) (joined p q).signature.operations (joined p q).signature es
+    → ImagesAreOf (joined_sort p q) (joined_operation p q) (joined_presentation p q).signature.operations
+    (joined_presentation p q).signature es
 all_images p q es have i e found =
     let sides = have i e found in (
-      image_of_signature q.signature (joined p q).signature (joined_sort p q) (joined_operation p q) (profiled_in e.left)
+      image_of_signature q.signature (joined_presentation p q).signature (joined_sort p q) (joined_operation p q) (profiled_in e.left)
           (union_maps p q) sides.0,
-      image_of_signature q.signature (joined p q).signature (joined_sort p q) (joined_operation p q) (profiled_in e.right)
+      image_of_signature q.signature (joined_presentation p q).signature (joined_sort p q) (joined_operation p q) (profiled_in e.right)
           (union_maps p q) sides.1,
     )
 
@@ -66,7 +68,7 @@ all_images p q es have i e found =
 pub record AreMapsOfUnion (p q : Presentation) (sorts operations : List ℕ) (profiles : List Operation) : Type 0 where
   pub sorts_are : (n : ℕ) → number_in sorts n ≡ joined_sort p q n
   pub operations_are : (n : ℕ) → number_in operations n ≡ joined_operation p q n
-  pub profiles_are : profiles ≡ (joined p q).signature.operations
+  pub profiles_are : profiles ≡ (joined_presentation p q).signature.operations
 
 pub keep_by_lists : (p q : Presentation) (sorts operations : List ℕ) (profiles : List Operation) (es : List CodeEquation)
     → AreMapsOfUnion p q sorts operations profiles → HaveSidesOf q.signature es
@@ -81,11 +83,11 @@ keep_by_lists p q sorts operations profiles es maps have =
 
 pub images_by_lists : (p q : Presentation) (sorts operations : List ℕ) (profiles : List Operation) (es : List CodeEquation)
     → AreMapsOfUnion p q sorts operations profiles → HaveSidesOf q.signature es
-    → ImagesAreOf (number_in sorts) (number_in operations) profiles (joined p q).signature es
+    → ImagesAreOf (number_in sorts) (number_in operations) profiles (joined_presentation p q).signature es
 images_by_lists p q sorts operations profiles es maps have =
     let f : number_in sorts ≡ joined_sort p q = fun_ext maps.sorts_are in
     let g : number_in operations ≡ joined_operation p q = fun_ext maps.operations_are in
-    subst (λ (h : ℕ → ℕ). ImagesAreOf h (number_in operations) profiles (joined p q).signature es) (sym f)
-    (subst (λ (h : ℕ → ℕ). ImagesAreOf (joined_sort p q) h profiles (joined p q).signature es) (sym g)
-    (subst (λ (os : List Operation). ImagesAreOf (joined_sort p q) (joined_operation p q) os (joined p q).signature es)
+    subst (λ (h : ℕ → ℕ). ImagesAreOf h (number_in operations) profiles (joined_presentation p q).signature es) (sym f)
+    (subst (λ (h : ℕ → ℕ). ImagesAreOf (joined_sort p q) h profiles (joined_presentation p q).signature es) (sym g)
+    (subst (λ (os : List Operation). ImagesAreOf (joined_sort p q) (joined_operation p q) os (joined_presentation p q).signature es)
     (sym maps.profiles_are) (all_images p q es have)))

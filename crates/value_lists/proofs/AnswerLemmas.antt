@@ -19,7 +19,7 @@ use Rattle.value_lists.specs.Tuples.{tuple_count}
 use Rattle.value_lists.specs.ValueList.{AreValueLists, HasMoreValues, HasUpToValues, IsValueList}
 use Rattle.value_lists.specs.declared.limits.TheConstants.{MAX_INSTANCES, MAX_VALUES}
 use Rattle.value_lists.specs.ListOutcome.{ListOutcome, listed, refused, no_sort, too_many_values, too_many_instances, IsListOf, HasFew, HasTooMany, IsOwnForm, MayChoose, ValuesComeTo, has_no_sort, has_too_many, has_values, InstancesComeTo, has_too_many_instances, has_instances, IsInstanceList}
-use Rattle.value_lists.specs.ListText.{Printing, list_refusal_text, value_list_text, values_text, instance_list_text, instances_text, printing_of}
+use Rattle.value_lists.specs.ListText.{Printing, list_refusal_text, value_list_text, listed_values_text, instance_list_text, instances_text, printing_of}
 use Rattle.value_lists.specs.ListView.{AddsList, HasChoices, HasRules, IsPrintedFor, printing_with}
 use Rattle.value_lists.proofs.SettledLemmas.{few_same, instances_same, list_same, lists_same, more_same, settled}
 
@@ -32,7 +32,7 @@ sort_there read signature spelled name s same is h =
     subst (λ (it : Signature). IsSortNamed it s name) same (subst (λ (it : List ℕ). IsSortNamed read s it) is h)
 
 abbrev AddsValues : SessionBasis → List ℕ → ℕ → List ℕ → List ℕ → Type 0
-AddsValues basis name size before after = AddsList (ValuesComeTo basis name size) (values_text basis) before after
+AddsValues basis name size before after = AddsList (ValuesComeTo basis name size) (listed_values_text basis) before after
 
 pub no_sort_added : (basis : SessionBasis) (read signature : Signature) (rules : List Rule) (spelled name : List ℕ) (size : ℕ)
     (before after : List ℕ) → HasRules basis signature rules → read ≡ signature → spelled ≡ name

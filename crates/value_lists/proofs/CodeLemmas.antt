@@ -2,12 +2,12 @@
 use Rattle.std.proofs.Common.{◌≡◌, ℕ, zero, suc, ◌+◌, ◌-◌, ◌*◌, ◌<◌, ◌≤◌, List, [], ◌∷◌, ◌++◌, length, get_or, map, drop, Bool, true, false, nat_eq, refl, ap, sym, ◌∙◌, subst, arith}
 use Rattle.std.specs.Prelude.{if◌then◌else◌, not, ◌&&◌, MatchOption, IfErr, IsErrAnd, Result, Ok, Err, Option, None, Some}
 use Rattle.std.proofs.lemmas.Bool.{eq-eqb, eqb-true, ne_eqb, and_parts}
-use Rattle.std.proofs.lemmas.List.{append-nil, drop_all, drop-map, length-drop, length-map, length_push, map_push}
+use Rattle.std.proofs.lemmas.List.{append-nil, drop-map, length-drop, length-map, length_push, map_push}
 use Rattle.lotos_base.proofs.Members.{read_map}
 use Rattle.rewriting_theory.specs.Matching.{Matches, NoMatch}
 use Rattle.rewriting_theory.specs.Rule.{Rule as PlainRule}
 use Rattle.sort_terms.specs.ProfiledTerm.{ProfiledTerm, bare, profiled_node}
-use Rattle.sort_terms.specs.TermView.{all_profiled, profiled_of, term_of, terms_of}
+use Rattle.sort_terms.specs.TermView.{all_profiled, profiled_of, term_of, bare_terms_of}
 use Rattle.sort_terms.specs.declared.terms.Term.{Term}
 use Rattle.term_match.proofs.MatchLemmas.{search_is_match}
 use Rattle.term_match.proofs.SearchLemmas.{Pairs}
@@ -21,7 +21,7 @@ use Rattle.value_lists.specs.RootTest.{no_rule_matches}
 use Rattle.value_lists.specs.Search as plain
 use Rattle.value_lists.specs.Search.{kept, found_behind, found_by}
 use Rattle.value_lists.specs.TermOrder.{term_size, term_sizes}
-use Rattle.value_lists.specs.TrialView.{applied_in, found_here, found_next, found_through, HasPlace, IsPart, leaves_over_at, profiled_value, sorts_behind, sorts_of, suits_at, trial_of, values_in}
+use Rattle.value_lists.specs.TrialView.{applied_in, found_here, found_next, found_through, HasPlace, IsPart, leaves_over_at, profiled_value, sorts_behind, trial_sorts_of, suits_at, trial_of, values_in}
 use Rattle.value_lists.specs.declared.list_fault.ListFault.{ListFault}
 use Rattle.value_lists.specs.declared.list_fault.ListFault.TheVariants.{TooManyValues, TooManyInstances, NoMemory}
 use Rattle.value_lists.specs.declared.trials.Trial.{Trial}
@@ -79,21 +79,21 @@ pub applied_same : (self : Trial) (xs ys : List Term) → all_profiled xs ≡ al
 applied_same self xs ys same = ap (profiled_node (trial_of self).number (trial_of self).operation) same
 
 kept_not : (trial : plain.Trial) (chosen : List ProfiledTerm) (left : ℕ) → left ≡ 0
-    → trial.keeps (plain.applied trial chosen) ≡ false → kept trial chosen left ≡ []
-kept_not trial chosen left none not_kept = go (nat_eq left 0) (trial.keeps (plain.applied trial chosen)) not_kept
+    → trial.keeps (plain.trial_applied trial chosen) ≡ false → kept trial chosen left ≡ []
+kept_not trial chosen left none not_kept = go (nat_eq left 0) (trial.keeps (plain.trial_applied trial chosen)) not_kept
   where
     go : (b k : Bool) → k ≡ false
-        → (if b then (if k then plain.applied trial chosen ∷ [] else []) else []) ≡ []
+        → (if b then (if k then plain.trial_applied trial chosen ∷ [] else []) else []) ≡ []
     go true true e = absurd (cc e)
     go true false e = refl
     go false k e = refl
 
 kept_is : (trial : plain.Trial) (chosen : List ProfiledTerm) (left : ℕ) → left ≡ 0
-    → trial.keeps (plain.applied trial chosen) ≡ true → kept trial chosen left ≡ plain.applied trial chosen ∷ []
-kept_is trial chosen left none is_kept = go (nat_eq left 0) (eq-eqb left 0 none) (trial.keeps (plain.applied trial chosen)) is_kept
+    → trial.keeps (plain.trial_applied trial chosen) ≡ true → kept trial chosen left ≡ plain.trial_applied trial chosen ∷ []
+kept_is trial chosen left none is_kept = go (nat_eq left 0) (eq-eqb left 0 none) (trial.keeps (plain.trial_applied trial chosen)) is_kept
   where
     go : (b : Bool) → b ≡ true → (k : Bool) → k ≡ true
-        → (if b then (if k then plain.applied trial chosen ∷ [] else []) else []) ≡ plain.applied trial chosen ∷ []
+        → (if b then (if k then plain.trial_applied trial chosen ∷ [] else []) else []) ≡ plain.trial_applied trial chosen ∷ []
     go true e true h = refl
     go true e false h = absurd (cc h)
     go false e k h = absurd (cc e)
@@ -102,15 +102,9 @@ kept_later : (trial : plain.Trial) (chosen : List ProfiledTerm) (left : ℕ) →
 kept_later trial chosen left some = go (nat_eq left 0) (ne_eqb left 0 some)
   where
     go : (b : Bool) → b ≡ false
-        → (if b then (if trial.keeps (plain.applied trial chosen) then plain.applied trial chosen ∷ [] else []) else []) ≡ []
+        → (if b then (if trial.keeps (plain.trial_applied trial chosen) then plain.trial_applied trial chosen ∷ [] else []) else []) ≡ []
     go true e = absurd (cc e)
     go false e = refl
-
-pub keep_later : (self : Trial) (chosen : List Term) (left : ℕ) (found : List ProfiledTerm) → (left ≡ 0 → ⊥)
-    → found ≡ found ++ found_here self chosen left
-keep_later self chosen left found some =
-    sym (append-nil found)
-    ∙ ap (λ (ts : List ProfiledTerm). found ++ ts) (sym (kept_later (trial_of self) (map profiled_of chosen) left some))
 
 pub keep_not : (self : Trial) (chosen : List Term) (left : ℕ) (found : List ProfiledTerm) (term : ProfiledTerm) (b : Bool)
     → left ≡ 0 → term ≡ applied_in self chosen → b ≡ no_rule_matches (plain_rules_in self.rules.now) (bare term) → b ≡ false
@@ -142,29 +136,12 @@ keep_full self chosen left found term b room none is tested passed full =
 
 -- ---- The next argument
 
-pub part_of : (self : Trial) (chosen others : List Term) (left : ℕ) → others ≡ chosen → IsPart self chosen left → IsPart self others left
-part_of self chosen others left same part = subst (λ (ts : List Term). IsPart self ts left) (sym same) part
-
 pub has_place : (self : Trial) (chosen others : List Term) (left n m : ℕ) → others ≡ chosen → IsPart self chosen left
-    → n ≡ length chosen → m ≡ length (sorts_of self) → (n ≡ m → ⊥) → HasPlace self others
+    → n ≡ length chosen → m ≡ length (trial_sorts_of self) → (n ≡ m → ⊥) → HasPlace self others
 has_place self chosen others left n m same part count arity differ =
     let places = part.places in
     let lengths : length others ≡ length chosen = ap length same in
     grind (arith, places, count, arity, differ, lengths)
-
-found_by_not : (trial : plain.Trial) (chosen : List ProfiledTerm) (sorts : List ℕ) (left : ℕ) (value : Value)
-    → suits_at sorts left value ≡ false → found_by trial chosen sorts left (profiled_value value) ≡ []
-found_by_not trial chosen [] left value h = refl
-found_by_not trial chosen (sort ∷ sorts) left value h =
-    ap (λ (b : Bool). if b then found_behind trial (chosen ++ profiled_value value ∷ []) sorts
-    (left - term_size (bare (profiled_value value))) else []) h
-
-pub with_not : (self : Trial) (chosen : List Term) (left : ℕ) (value : Value) (found : List ProfiledTerm) (b : Bool)
-    → b ≡ suits_at (sorts_behind self chosen) left value → b ≡ false → found ≡ found ++ found_through self chosen left value
-with_not self chosen left value found b tested failed =
-    sym (append-nil found)
-    ∙ ap (λ (ts : List ProfiledTerm). found ++ ts)
-    (sym (found_by_not (trial_of self) (map profiled_of chosen) (sorts_behind self chosen) left value (sym tested ∙ failed)))
 
 -- what a value that suits says
 -- Its size is at most what is left, and at least the next sort is there.
@@ -253,10 +230,10 @@ through_is self chosen more left value copy b is copied tested passed =
     let count : length more ≡ length chosen + 1 = ap length is ∙ length_push chosen copy in
     let profiles : map profiled_of more ≡ map profiled_of chosen ++ profiled_value value ∷ [] =
     ap (map profiled_of) is ∙ map_push profiled_of chosen copy ∙ ap (λ (t : ProfiledTerm). map profiled_of chosen ++ t ∷ []) copied in
-    ap (λ (n : ℕ). found_behind (trial_of self) (map profiled_of more) (drop n (sorts_of self)) (left - value.size)) count
-    ∙ ap (λ (ts : List ProfiledTerm). found_behind (trial_of self) ts (drop (length chosen + 1) (sorts_of self)) (left - value.size))
+    ap (λ (n : ℕ). found_behind (trial_of self) (map profiled_of more) (drop n (trial_sorts_of self)) (left - value.size)) count
+    ∙ ap (λ (ts : List ProfiledTerm). found_behind (trial_of self) ts (drop (length chosen + 1) (trial_sorts_of self)) (left - value.size))
     profiles
-    ∙ sym (found_by_is (trial_of self) (map profiled_of chosen) (sorts_of self) (length chosen) left value (sym tested ∙ passed))
+    ∙ sym (found_by_is (trial_of self) (map profiled_of chosen) (trial_sorts_of self) (length chosen) left value (sym tested ∙ passed))
 
 pub part_more : (self : Trial) (chosen more : List Term) (left : ℕ) (value : Value) (copy : Term) (b : Bool)
     → more ≡ chosen ++ copy ∷ [] → profiled_of copy ≡ profiled_of value.term
@@ -267,7 +244,7 @@ part_more self chosen more left value copy b is copied tested passed part place 
     let profiles : map profiled_of more ≡ map profiled_of chosen ++ profiled_value value ∷ [] =
     ap (map profiled_of) is ∙ map_push profiled_of chosen copy ∙ ap (λ (t : ProfiledTerm). map profiled_of chosen ++ t ∷ []) copied in
     let small = suited (sorts_behind self chosen) left value (sym tested ∙ passed) in
-    let sizes : term_sizes (terms_of more) ≡ term_sizes (terms_of chosen) + (term_size (term_of value.term) + 0) =
+    let sizes : term_sizes (bare_terms_of more) ≡ term_sizes (bare_terms_of chosen) + (term_size (term_of value.term) + 0) =
     ap (λ (ts : List ProfiledTerm). term_sizes (plain_terms ts)) profiles
     ∙ sizes_joined (map profiled_of chosen) (profiled_value value ∷ []) in
     let own = value.sized in
@@ -283,7 +260,7 @@ pub loop_starts : (self : Trial) (chosen : List Term) (left : ℕ) (found : List
     → found ++ found_among (trial_of self) (map profiled_of chosen) (sorts_behind self chosen) left (values_in values)
     ≡ found ++ found_next self chosen left
 loop_starts self chosen left found values place all =
-    let some = drop_length (sorts_of self) (length chosen) place in
+    let some = drop_length (trial_sorts_of self) (length chosen) place in
     ap (λ (ts : List Value). found ++ found_among (trial_of self) (map profiled_of chosen) (sorts_behind self chosen) left (values_in ts))
     all
     ∙ ap (λ (ts : List ProfiledTerm). found ++ ts)
@@ -293,14 +270,6 @@ loop_starts self chosen left found values place all =
     drop_length [] i within = absurd (omega (arith, within))
     drop_length (x ∷ xs) zero within = omega arith
     drop_length (x ∷ xs) (suc i) within = drop_length xs i (omega (arith, within))
-
--- where all arguments are chosen
-pub all_chosen : (self : Trial) (chosen : List Term) (left n m : ℕ) → n ≡ length chosen → m ≡ length (sorts_of self) → n ≡ m
-    → found_here self chosen left ≡ found_next self chosen left
-all_chosen self chosen left n m count arity same =
-    let all : length (sorts_of self) ≤ length chosen = omega (arith, count, arity, same) in
-    ap (λ (sorts : List ℕ). found_behind (trial_of self) (map profiled_of chosen) sorts left)
-    (sym (drop_all (length chosen) (sorts_of self) all))
 
 -- with one of the values as the next argument there is too much already
 pub value_full : (self : Trial) (chosen now : List Term) (left i : ℕ) (value : Value) (found whole : List ProfiledTerm) (room : ℕ)
@@ -319,10 +288,10 @@ value_full self chosen now left i value found whole room same within is so_far f
 
 -- what the test of a value says, by how many arguments are chosen
 pub tested_at : (self : Trial) (chosen : List Term) (left n : ℕ) (value : Value) (b : Bool) → n ≡ length chosen
-    → b ≡ suits_at (drop n (sorts_of self)) left value → b ≡ suits_at (sorts_behind self chosen) left value
-tested_at self chosen left n value b count tested = tested ∙ ap (λ (k : ℕ). suits_at (drop k (sorts_of self)) left value) count
+    → b ≡ suits_at (drop n (trial_sorts_of self)) left value → b ≡ suits_at (sorts_behind self chosen) left value
+tested_at self chosen left n value b count tested = tested ∙ ap (λ (k : ℕ). suits_at (drop k (trial_sorts_of self)) left value) count
 
 pub late_at : (self : Trial) (chosen : List Term) (left n : ℕ) (value : Value) (b : Bool) → n ≡ length chosen
-    → b ≡ leaves_over_at (drop n (sorts_of self)) left value → b ≡ leaves_over_at (sorts_behind self chosen) left value
+    → b ≡ leaves_over_at (drop n (trial_sorts_of self)) left value → b ≡ leaves_over_at (sorts_behind self chosen) left value
 late_at self chosen left n value b count tested =
-    tested ∙ ap (λ (k : ℕ). leaves_over_at (drop k (sorts_of self)) left value) count
+    tested ∙ ap (λ (k : ℕ). leaves_over_at (drop k (trial_sorts_of self)) left value) count

@@ -17,9 +17,9 @@ use Rattle.sort_terms.specs.TermView.{profiled_of}
 use Rattle.sort_terms.specs.declared.operations.Op.{Op}
 use Rattle.sort_terms.specs.declared.sorted.Sorted.{Sorted}
 use Rattle.sort_terms.specs.declared.terms.Term.{Term}
-use Rattle.value_lists.specs.InstanceList.{IsChoice}
-use Rattle.value_lists.specs.FoundView.{found_for_each, kept_by, operations_in}
-use Rattle.value_lists.specs.Search.{found_for, found_up_to, with_next}
+use Rattle.value_lists.specs.InstanceList.{IsGroundChoice}
+use Rattle.value_lists.specs.FoundView.{found_for_each, kept_by, shared_operations_in}
+use Rattle.value_lists.specs.Search.{found_for, found_up_to, with_next_operation}
 use Rattle.value_lists.specs.TrialView.{profiled_value, values_in}
 use Rattle.value_lists.specs.ValueList.{IsValueList, HasMoreValues, HasUpToValues}
 use Rattle.value_lists.specs.declared.value.Value.{Value}
@@ -54,7 +54,7 @@ list_up_to signature rules n size sort values made done is made_is =
 pub choices_up_to : (signature : Signature) (rules : List Rule) (n size sort : ℕ) (values : List ProfiledTerm) (made : List Sorted)
     → n ≡ size
     → IsUpTo signature rules n values → map profiled_in made ≡ filter (λ t. nat_eq (head_sort t) sort) values
-    → Every (IsChoice signature sort) (map profiled_in made)
+    → Every (IsGroundChoice signature sort) (map profiled_in made)
 choices_up_to signature rules n size sort values made done is made_is =
     listed_choices signature rules size sort made
     (made_is ∙ ap (filter (λ t. nat_eq (head_sort t) sort))
@@ -69,11 +69,12 @@ few_up_to signature rules n size number values done is few =
 
 pub full_up_to : (signature : Signature) (rules : List Rule) (n size number : ℕ) (operations : List Operation) (values : List ProfiledTerm)
     → operations ≡ signature.operations → IsUpTo signature rules n values → n < size
-    → number < length (with_next (keeps signature rules) operations n values) → HasMoreValues signature (IsNormal rules) size number
+    → number < length (with_next_operation (keeps signature rules) operations n values)
+    → HasMoreValues signature (IsNormal rules) size number
 full_up_to signature rules n size number operations values same is less full =
     full_later signature rules n size number less
-    (subst (λ (ts : List ProfiledTerm). number < length (with_next (keeps signature rules) signature.operations n ts)) is
-    (subst (λ (os : List Operation). number < length (with_next (keeps signature rules) os n values)) same full))
+    (subst (λ (ts : List ProfiledTerm). number < length (with_next_operation (keeps signature rules) signature.operations n ts)) is
+    (subst (λ (os : List Operation). number < length (with_next_operation (keeps signature rules) os n values)) same full))
 
 pub few_values : (signature : Signature) (rules : List Rule) (n size number : ℕ) (values : List Value) → n ≡ size
     → IsUpTo signature rules n (values_in values) → length values ≤ number → HasUpToValues signature (IsNormal rules) size number
@@ -88,18 +89,18 @@ operation_behind profile = operation_of profile.value
 
 -- the operation with a number, among those that are shared
 operation_there : (profiles : List (Rc Op Global)) (i : ℕ) (profile : Rc Op Global) → profile ≡ get_or profiles i profile
-    → operation_behind profile ≡ get_or (operations_in profiles) i (operation_behind profile)
+    → operation_behind profile ≡ get_or (shared_operations_in profiles) i (operation_behind profile)
 operation_there profiles i profile is = ap operation_behind is ∙ sym (read_map operation_behind profiles i profile)
 
 pub next_step : (rules : Rules) (smaller items found more : List Value) (size i : ℕ) (profiles : List (Rc Op Global))
     (profile : Rc Op Global) (whole : List ProfiledTerm) → i < length profiles → profile ≡ get_or profiles i profile → items ≡ smaller
     → values_in more
     ≡ values_in found ++ found_for (trial_of (kept_by rules) (values_in items) i (operation_of profile.value)) size
-    → values_in found ++ found_for_each rules (values_in smaller) size i (drop i (operations_in profiles)) ≡ whole
-    → values_in more ++ found_for_each rules (values_in smaller) size (i + 1) (drop (i + 1) (operations_in profiles)) ≡ whole
+    → values_in found ++ found_for_each rules (values_in smaller) size i (drop i (shared_operations_in profiles)) ≡ whole
+    → values_in more ++ found_for_each rules (values_in smaller) size (i + 1) (drop (i + 1) (shared_operations_in profiles)) ≡ whole
 next_step rules smaller items found more size i profiles profile whole within is same added so_far =
     let count = length-map profiles operation_behind in
-    each_step (kept_by rules) (values_in smaller) size (operations_in profiles) (values_in found) (values_in more) whole i
+    each_step (kept_by rules) (values_in smaller) size (shared_operations_in profiles) (values_in found) (values_in more) whole i
     (operation_of profile.value) (omega (arith, within, count)) (operation_there profiles i profile is)
     (added ∙ ap (λ (vs : List Value). values_in found
     ++ found_for (trial_of (kept_by rules) (values_in vs) i (operation_of profile.value)) size) same)
@@ -108,13 +109,13 @@ next_step rules smaller items found more size i profiles profile whole within is
 pub next_full : (rules : Rules) (smaller items found : List Value) (size i limit room count : ℕ) (profiles : List (Rc Op Global))
     (profile : Rc Op Global) (whole : List ProfiledTerm) → i < length profiles → profile ≡ get_or profiles i profile → items ≡ smaller
     → count ≡ length smaller → length smaller ≤ limit → room ≡ limit - count
-    → values_in found ++ found_for_each rules (values_in smaller) size i (drop i (operations_in profiles)) ≡ whole
+    → values_in found ++ found_for_each rules (values_in smaller) size i (drop i (shared_operations_in profiles)) ≡ whole
     → room < length (values_in found ++ found_for (trial_of (kept_by rules) (values_in items) i (operation_of profile.value)) size)
     → limit < length smaller + length whole
 next_full rules smaller items found size i limit room count profiles profile whole within is same counted fits rest so_far full =
     let number = length-map profiles operation_behind in
     let more : room < length whole =
-    each_full (kept_by rules) (values_in smaller) size (operations_in profiles) (values_in found) whole i room
+    each_full (kept_by rules) (values_in smaller) size (shared_operations_in profiles) (values_in found) whole i room
     (operation_of profile.value) (omega (arith, within, number)) (operation_there profiles i profile is)
     (subst (λ (vs : List Value). room < length (values_in found
     ++ found_for (trial_of (kept_by rules) (values_in vs) i (operation_of profile.value)) size)) same full)

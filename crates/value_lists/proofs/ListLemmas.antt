@@ -4,10 +4,11 @@ use Rattle.std.specs.Prelude.{◌⊎◌, Some, slice_get}
 use Rattle.std.proofs.lemmas.Option.{same_Some, slice_get_within}
 use Rattle.lotos_base.specs.Signature.{Signature}
 use Rattle.lotos_base.specs.Term.{Term}
+use Rattle.lotos_base.proofs.Numbers.{compared}
 use Rattle.value_lists.specs.TermOrder.{ComesBefore}
 use Rattle.value_lists.specs.Tuples.{HasEachOnce}
 use Rattle.value_lists.specs.ValueList.{ListsInOrder, IsWholeList, HasMoreValues, HasUpToValues}
-use Rattle.value_lists.proofs.OrderLemmas.{compared, not_before_itself, before_then}
+use Rattle.value_lists.proofs.OrderLemmas.{not_before_itself, before_then}
 use Rattle.value_lists.proofs.RisingLists.{one_list, pairs_rise, among_contains, contains_among}
 
 pub listed_once : {Wanted : Term → Type 0} {terms others : List Term} → ListsInOrder Wanted terms → ListsInOrder Wanted others

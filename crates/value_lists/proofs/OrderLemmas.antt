@@ -1,10 +1,11 @@
 -- The order of values is strict, and total on the ground terms of a signature.
-use Rattle.std.proofs.Common.{◌≡◌, ℕ, zero, suc, ◌+◌, ◌<◌, ◌≤◌, List, [], ◌∷◌, refl, ap, sym, ◌∙◌, subst, inl, inr, arith}
+use Rattle.std.proofs.Common.{◌≡◌, ℕ, ◌+◌, ◌<◌, List, [], ◌∷◌, refl, sym, ◌∙◌, subst, inl, inr, arith}
 use Rattle.std.specs.Prelude.{◌⊎◌}
 use Rattle.std.proofs.lemmas.Option.{same_Some}
 use Rattle.lotos_base.specs.Signature.{Signature, Operation, IsOperation}
 use Rattle.lotos_base.specs.Sorting.{HasSort, HaveSorts, IsGround, AreGround}
 use Rattle.lotos_base.specs.Term.{Term, variable, node, Terms, no_terms, term_then}
+use Rattle.lotos_base.proofs.Numbers.{compared}
 use Rattle.value_lists.specs.TermOrder.{term_size, term_sizes, ComesBefore, ComeBefore}
 
 mutual
@@ -50,31 +51,12 @@ mutual
   all_before_then (term_then t ts) (term_then u us) (term_then v vs) (inr (one, before)) (inr (two, after)) =
       inr (one ∙ two, all_before_then ts us vs before after)
 
-pub no_larger : (t u : Term) → ComesBefore t u → term_size t ≤ term_size u
-no_larger (variable n s) (variable m r) h = absurd h
-no_larger (variable n s) (node g us) h = absurd h
-no_larger (node f ts) (variable m r) h = absurd h
-no_larger (node f ts) (node g us) (inl less) = omega (arith, less)
-no_larger (node f ts) (node g us) (inr (same, heads)) = omega (arith, same)
-
 pub smaller_first : (t u : Term) → IsGround t → IsGround u → term_size t < term_size u → ComesBefore t u
 smaller_first (variable n s) u h k less = absurd h
 smaller_first (node f ts) (variable m r) h k less = absurd k
 smaller_first (node f ts) (node g us) h k less = inl (omega (arith, less))
 
 -- ---- Of two ground terms of a signature that differ one comes first
-
--- one number is smaller, or they are one
-pub compared : (m n : ℕ) → (m < n) ⊎ ((m ≡ n) ⊎ (n < m))
-compared zero zero = inr (inl refl)
-compared zero (suc n) = inl (omega arith)
-compared (suc m) zero = inr (inr (omega arith))
-compared (suc m) (suc n) = go (compared m n)
-  where
-    go : (m < n) ⊎ ((m ≡ n) ⊎ (n < m)) → (suc m < suc n) ⊎ ((suc m ≡ suc n) ⊎ (suc n < suc m))
-    go (inl less) = inl (omega (arith, less))
-    go (inr (inl same)) = inr (inl (ap (λ (k : ℕ). suc k) same))
-    go (inr (inr more)) = inr (inr (omega (arith, more)))
 
 abbrev Compares : Term → Term → Type 0
 Compares t u = ComesBefore t u ⊎ ((t ≡ u) ⊎ ComesBefore u t)

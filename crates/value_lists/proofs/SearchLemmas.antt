@@ -8,7 +8,7 @@ use Rattle.lotos_base.specs.Signature.{Operation}
 use Rattle.lotos_base.specs.Sorting.{IsGround, AreGround}
 use Rattle.sort_terms.specs.ProfiledTerm.{ProfiledTerm, ProfiledTerms, profiled_node, no_profiled_terms, profiled_term_then, bare, all_bare, head_sort, FitArguments}
 use Rattle.sort_terms.specs.TermView.{profiled_terms}
-use Rattle.value_lists.specs.Search.{Trial, applied, suits, kept, found_behind, found_with, found_for, found_from}
+use Rattle.value_lists.specs.Search.{Trial, trial_applied, suits, kept, found_behind, found_with, found_for, found_from}
 use Rattle.value_lists.specs.TermOrder.{term_size, term_sizes, ComesBefore}
 use Rattle.value_lists.proofs.Profiles.{unlisted, plain, sizes_joined, before_joined, have_operations}
 use Rattle.value_lists.proofs.RisingLists.{Among, Rises, among_left, among_right, among_either, rises_joined, among_piece, from_piece, rises_pieces}
@@ -72,31 +72,31 @@ to_suit smaller (profiled_term_then t ts) (s ∷ ss) left among fits h e =
 pub record IsFound (trial : Trial) (chosen : List ProfiledTerm) (sorts : List ℕ) (left : ℕ) (t : ProfiledTerm) : Type 0 where
   pub arguments : List ProfiledTerm
   pub suit : Suit trial.smaller sorts left arguments
-  pub same : t ≡ applied trial (chosen ++ arguments)
+  pub same : t ≡ trial_applied trial (chosen ++ arguments)
   pub keeps : trial.keeps t ≡ true
 
 from_kept : (trial : Trial) (chosen : List ProfiledTerm) (left : ℕ) (t : ProfiledTerm) → Among t (kept trial chosen left)
     → IsFound trial chosen [] left t
-from_kept trial chosen left t h = go (nat_eq left 0) refl (trial.keeps (applied trial chosen)) refl h
+from_kept trial chosen left t h = go (nat_eq left 0) refl (trial.keeps (trial_applied trial chosen)) refl h
   where
-    go : (b : Bool) → nat_eq left 0 ≡ b → (k : Bool) → trial.keeps (applied trial chosen) ≡ k
-        → Among t (if b then (if k then applied trial chosen ∷ [] else []) else []) → IsFound trial chosen [] left t
+    go : (b : Bool) → nat_eq left 0 ≡ b → (k : Bool) → trial.keeps (trial_applied trial chosen) ≡ k
+        → Among t (if b then (if k then trial_applied trial chosen ∷ [] else []) else []) → IsFound trial chosen [] left t
     go true none true keeps (inl e) = record {
       arguments = [];
       suit = eqb-true left 0 none;
-      same = sym e ∙ ap (applied trial) (sym (append-nil chosen));
+      same = sym e ∙ ap (trial_applied trial) (sym (append-nil chosen));
       keeps = ap trial.keeps (sym e) ∙ keeps;
     }
     go true none true keeps (inr k) = absurd k
     go true none false keeps k = absurd k
     go false none b keeps k = absurd k
 
-to_kept : (trial : Trial) (chosen : List ProfiledTerm) (left : ℕ) → left ≡ 0 → trial.keeps (applied trial chosen) ≡ true
-    → Among (applied trial chosen) (kept trial chosen left)
-to_kept trial chosen left none keeps = go (nat_eq left 0) (eq-eqb left 0 none) (trial.keeps (applied trial chosen)) keeps
+to_kept : (trial : Trial) (chosen : List ProfiledTerm) (left : ℕ) → left ≡ 0 → trial.keeps (trial_applied trial chosen) ≡ true
+    → Among (trial_applied trial chosen) (kept trial chosen left)
+to_kept trial chosen left none keeps = go (nat_eq left 0) (eq-eqb left 0 none) (trial.keeps (trial_applied trial chosen)) keeps
   where
     go : (b : Bool) → b ≡ true → (k : Bool) → k ≡ true
-        → Among (applied trial chosen) (if b then (if k then applied trial chosen ∷ [] else []) else [])
+        → Among (trial_applied trial chosen) (if b then (if k then trial_applied trial chosen ∷ [] else []) else [])
     go true e true k = inl refl
     go true e false k = absurd (cc k)
     go false e b k = absurd (cc e)
@@ -108,7 +108,7 @@ abbrev found_before : (trial : Trial) (chosen : List ProfiledTerm) (s : ℕ) (ss
 found_before trial chosen s ss left u t among is found = record {
   arguments = u ∷ found.arguments;
   suit = (among, is, found.suit);
-  same = found.same ∙ ap (applied trial) (append_assoc chosen (u ∷ []) found.arguments);
+  same = found.same ∙ ap (trial_applied trial) (append_assoc chosen (u ∷ []) found.arguments);
   keeps = found.keeps;
 }
 
@@ -131,24 +131,25 @@ mutual
       (suits s (length ss) left piece.0) refl piece.2
 
 pub to_found : (trial : Trial) (chosen : List ProfiledTerm) (sorts : List ℕ) (left : ℕ) (us : List ProfiledTerm)
-    → Suit trial.smaller sorts left us → trial.keeps (applied trial (chosen ++ us)) ≡ true
-    → Among (applied trial (chosen ++ us)) (found_behind trial chosen sorts left)
+    → Suit trial.smaller sorts left us → trial.keeps (trial_applied trial (chosen ++ us)) ≡ true
+    → Among (trial_applied trial (chosen ++ us)) (found_behind trial chosen sorts left)
 to_found trial chosen [] left [] suit keeps =
-    subst (λ (ts : List ProfiledTerm). Among (applied trial ts) (kept trial chosen left)) (sym (append-nil chosen))
-    (to_kept trial chosen left suit (ap (λ (ts : List ProfiledTerm). trial.keeps (applied trial ts)) (sym (append-nil chosen)) ∙ keeps))
+    subst (λ (ts : List ProfiledTerm). Among (trial_applied trial ts) (kept trial chosen left)) (sym (append-nil chosen))
+    (to_kept trial chosen left suit
+    (ap (λ (ts : List ProfiledTerm). trial.keeps (trial_applied trial ts)) (sym (append-nil chosen)) ∙ keeps))
 to_found trial chosen [] left (u ∷ us) suit keeps = absurd suit
 to_found trial chosen (s ∷ ss) left [] suit keeps = absurd suit
 to_found trial chosen (s ∷ ss) left (u ∷ us) suit keeps =
-    among_piece (found_with trial chosen s ss left) trial.smaller u (applied trial (chosen ++ u ∷ us)) suit.0
-    (go (subst (λ (ts : List ProfiledTerm). Among (applied trial ts)
+    among_piece (found_with trial chosen s ss left) trial.smaller u (trial_applied trial (chosen ++ u ∷ us)) suit.0
+    (go (subst (λ (ts : List ProfiledTerm). Among (trial_applied trial ts)
     (found_behind trial (chosen ++ u ∷ []) ss (left - term_size (bare u)))) (append_assoc chosen (u ∷ []) us)
     (to_found trial (chosen ++ u ∷ []) ss (left - term_size (bare u)) us suit.2
-    (ap (λ (ts : List ProfiledTerm). trial.keeps (applied trial ts)) (append_assoc chosen (u ∷ []) us) ∙ keeps)))
+    (ap (λ (ts : List ProfiledTerm). trial.keeps (trial_applied trial ts)) (append_assoc chosen (u ∷ []) us) ∙ keeps)))
     (suits s (length ss) left u) suit.1)
   where
-    go : Among (applied trial (chosen ++ u ∷ us)) (found_behind trial (chosen ++ u ∷ []) ss (left - term_size (bare u)))
+    go : Among (trial_applied trial (chosen ++ u ∷ us)) (found_behind trial (chosen ++ u ∷ []) ss (left - term_size (bare u)))
         → (b : Bool) → b ≡ true
-        → Among (applied trial (chosen ++ u ∷ us))
+        → Among (trial_applied trial (chosen ++ u ∷ us))
         (if b then found_behind trial (chosen ++ u ∷ []) ss (left - term_size (bare u)) else [])
     go inner true e = inner
     go inner false e = absurd (cc e)
@@ -168,7 +169,7 @@ apart trial chosen s ss left u v t w among_u among_v before is_u is_v found_t fo
     let joined_one = sizes_joined chosen one.arguments in
     let joined_two = sizes_joined chosen two.arguments in
     subst (λ (x : ProfiledTerm). Before x w) (sym one.same)
-    (subst (λ (x : ProfiledTerm). Before (applied trial (chosen ++ one.arguments)) x) (sym two.same)
+    (subst (λ (x : ProfiledTerm). Before (trial_applied trial (chosen ++ one.arguments)) x) (sym two.same)
     (inr (
       joined_one ∙ ap (λ (n : ℕ). term_sizes (plain chosen) + n) (size_one ∙ sym size_two) ∙ sym joined_two,
       inr (refl, before_joined chosen one.arguments two.arguments (inl before)),
@@ -176,9 +177,9 @@ apart trial chosen s ss left u v t w among_u among_v before is_u is_v found_t fo
 
 pub rises_found : (trial : Trial) (chosen : List ProfiledTerm) (sorts : List ℕ) (left : ℕ) → Rises Before trial.smaller
     → Rises Before (found_behind trial chosen sorts left)
-rises_found trial chosen [] left rise = go (nat_eq left 0) (trial.keeps (applied trial chosen))
+rises_found trial chosen [] left rise = go (nat_eq left 0) (trial.keeps (trial_applied trial chosen))
   where
-    go : (b k : Bool) → Rises Before (if b then (if k then applied trial chosen ∷ [] else []) else [])
+    go : (b k : Bool) → Rises Before (if b then (if k then trial_applied trial chosen ∷ [] else []) else [])
     go true true = (λ y h. absurd h, tt)
     go true false = tt
     go false k = tt
@@ -274,7 +275,7 @@ later keeps smaller left f g one other t w less found_t found_w =
     let size_t = suit_sizes smaller one.arguments left found_t.arguments found_t.suit in
     let size_w = suit_sizes smaller other.arguments left found_w.arguments found_w.suit in
     subst (λ (x : ProfiledTerm). Before x w) (sym found_t.same)
-    (subst (λ (x : ProfiledTerm). Before (applied (trial_of keeps smaller f one) found_t.arguments) x) (sym found_w.same)
+    (subst (λ (x : ProfiledTerm). Before (trial_applied (trial_of keeps smaller f one) found_t.arguments) x) (sym found_w.same)
     (inr (size_t ∙ sym size_w, inl less)))
 
 pub rises_all : (keeps : ProfiledTerm → Bool) (smaller : List ProfiledTerm) (left first : ℕ) (operations : List Operation)

@@ -13,7 +13,7 @@ use Rattle.sort_terms.specs.ProfiledTerm.{ProfiledTerm, ProfiledTerms, profiled_
 use Rattle.sort_terms.specs.TermView.{profiled_terms}
 use Rattle.sort_terms.proofs.ProfiledTermLemmas.{fitting_has_sort}
 use Rattle.value_lists.specs.RootTest.{no_rule_matches}
-use Rattle.value_lists.specs.Search.{Trial, applied, found_for, found_from, found_up_to}
+use Rattle.value_lists.specs.Search.{Trial, trial_applied, found_for, found_from, found_up_to}
 use Rattle.value_lists.specs.TermOrder.{term_size, term_sizes, ComesBefore}
 use Rattle.value_lists.specs.ValueList.{IsValueWithin, IsValueList, IsWholeList}
 use Rattle.value_lists.proofs.NormalParts.{AreNormal, normal_root, normal_arguments, normal_node, test_sound, test_complete}

@@ -1,15 +1,13 @@
 -- Texts that are written in pieces, line by line.
 use Rattle.std.proofs.Common.{◌≡◌, ℕ, ◌+◌, ◌<◌, List, [], ◌∷◌, ◌++◌, map, codes, Vec, Global, drop, get_or, length, refl, ap, sym, ◌∙◌, append_assoc}
 use Rattle.lotos_base.proofs.Pieces.{next_member, two_pieces, three_pieces}
-use Rattle.behaviour_semantics.specs.Solving.{Entry}
 use Rattle.behaviour_tree.specs.BehaviourView.{terms_of}
 use Rattle.session_histories.specs.HandedOn.{written_value}
 use Rattle.session_histories.specs.TraceText.{ended}
 use Rattle.sort_terms.specs.SignatureView.{signature_of}
 use Rattle.sort_terms.specs.declared.signatures.Signature.{Signature}
 use Rattle.sort_terms.specs.declared.sorted.Sorted.{Sorted}
-use Rattle.value_lists.specs.InstanceList.{lists_of}
-use Rattle.value_lists.specs.ListText.{Printing, instance_line, instance_lines, value_lines}
+use Rattle.value_lists.specs.ListText.{value_lines}
 
 pub four_pieces : (start one two three end a b c d : List ℕ) → one ≡ start ++ a → two ≡ one ++ b → three ≡ two ++ c → end ≡ three ++ d
     → end ≡ start ++ ((a ++ b ++ c) ++ d)
@@ -35,15 +33,3 @@ one_value_more signature values index value was now start below is before writte
 
 abbrev Tuples : Type 0
 Tuples = List (Vec Sorted Global)
-
--- one instance more is written
-pub one_instance_more : (printing : Printing) (number : ℕ) (entry : Entry) (tuples : Tuples) (index : ℕ) (values : Vec Sorted Global)
-    (was now start : List ℕ) → index < length tuples → values ≡ get_or tuples index values
-    → was ++ instance_lines printing number entry (lists_of (drop index tuples)) ≡ start
-    → now ≡ was ++ instance_line printing number entry (terms_of values.items)
-    → now ++ instance_lines printing number entry (lists_of (drop (index + 1) tuples)) ≡ start
-one_instance_more printing number entry tuples index values was now start below is before written =
-    ap (λ (it : List ℕ). it ++ instance_lines printing number entry (lists_of (drop (index + 1) tuples))) written
-    ∙ (append_assoc was (instance_line printing number entry (terms_of values.items)) _
-    ∙ (ap (λ (it : Tuples). was ++ instance_lines printing number entry (lists_of it))
-    (sym (next_member tuples index values below is)) ∙ before))

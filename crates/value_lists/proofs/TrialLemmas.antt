@@ -1,8 +1,8 @@
 -- The steps of a trial: what is found with one value after the other, and lists that are too long already.
-use Rattle.std.proofs.Common.{◌≡◌, ℕ, zero, suc, ◌+◌, ◌-◌, ◌<◌, ◌≤◌, List, [], ◌∷◌, ◌++◌, length, get_or, map, drop, Bool, true, false, refl, ap, sym, ◌∙◌, subst, arith}
+use Rattle.std.proofs.Common.{◌≡◌, ℕ, zero, suc, ◌+◌, ◌-◌, ◌<◌, List, [], ◌∷◌, ◌++◌, length, get_or, map, drop, Bool, true, false, refl, ap, sym, ◌∙◌, subst, arith}
 use Rattle.std.specs.Prelude.{if◌then◌else◌}
 use Rattle.std.specs.List.{flat_map}
-use Rattle.std.proofs.lemmas.List.{append-nil, append_assoc, drop_more, drop_all, length-append, length-drop}
+use Rattle.std.proofs.lemmas.List.{append_assoc, drop_more, length-append, length-drop}
 use Rattle.sort_terms.specs.ProfiledTerm.{ProfiledTerm}
 use Rattle.value_lists.specs.Search.{Trial, suits, found_behind, found_with, found_by}
 
@@ -16,11 +16,6 @@ pub found_among_more : (trial : Trial) (chosen : List ProfiledTerm) (sorts : Lis
     → found_among trial chosen sorts left (u ∷ us) ≡ found_by trial chosen sorts left u ++ found_among trial chosen sorts left us
 found_among_more trial chosen [] left u us = refl
 found_among_more trial chosen (sort ∷ sorts) left u us = refl
-
-pub found_among_none : (trial : Trial) (chosen : List ProfiledTerm) (sorts : List ℕ) (left : ℕ)
-    → found_among trial chosen sorts left [] ≡ []
-found_among_none trial chosen [] left = refl
-found_among_none trial chosen (sort ∷ sorts) left = refl
 
 -- with all values it is what is found behind the chosen arguments
 pub found_among_all : (trial : Trial) (chosen : List ProfiledTerm) (sorts : List ℕ) (left : ℕ) → 0 < length sorts
@@ -54,11 +49,3 @@ trial_full trial chosen sorts left us found whole i room u within is full so_far
     subst (λ (xs : List ProfiledTerm). room < length xs)
     (trial_step trial chosen sorts left us found (found ++ found_by trial chosen sorts left u) whole i u within is refl so_far)
     (longer (found ++ found_by trial chosen sorts left u) (found_among trial chosen sorts left (drop (i + 1) us)) room full)
-
-pub trial_done : (trial : Trial) (chosen : List ProfiledTerm) (sorts : List ℕ) (left : ℕ) (us found whole : List ProfiledTerm)
-    (i : ℕ) → length us ≤ i → found ++ found_among trial chosen sorts left (drop i us) ≡ whole → found ≡ whole
-trial_done trial chosen sorts left us found whole i all so_far =
-    sym (append-nil found)
-    ∙ ap (λ (xs : List ProfiledTerm). found ++ xs) (sym (found_among_none trial chosen sorts left))
-    ∙ ap (λ (xs : List ProfiledTerm). found ++ found_among trial chosen sorts left xs) (sym (drop_all i us all))
-    ∙ so_far

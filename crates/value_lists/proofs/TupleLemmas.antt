@@ -9,7 +9,7 @@ use Rattle.std.proofs.lemmas.Option.{same_Some, slice_get-get_or}
 use Rattle.lotos_base.specs.Term.{Term, variable}
 use Rattle.value_lists.specs.TupleNumbers.{has_empty, tuple_at}
 use Rattle.value_lists.specs.Tuples.{IsTuple, tuple_count, TermStandsBefore, TupleBefore, HasEachOnce, AllHaveEachOnce}
-use Rattle.value_lists.proofs.OrderLemmas.{compared}
+use Rattle.lotos_base.proofs.Numbers.{compared}
 
 -- ---- Counts
 

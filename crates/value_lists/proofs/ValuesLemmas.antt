@@ -2,7 +2,7 @@
 use Rattle.std.proofs.Common.{◌≡◌, ℕ, zero, suc, ◌+◌, ◌<◌, ◌≤◌, List, [], ◌∷◌, ◌++◌, length, get_or, map, drop, Bool, true, refl, ap, sym, ◌∙◌, subst, inl, inr, arith}
 use Rattle.std.specs.Prelude.{◌⊎◌, nat_eq}
 use Rattle.std.specs.List.{filter}
-use Rattle.std.proofs.lemmas.List.{append-nil, append_assoc, drop_more, drop_all, length-append, length-map}
+use Rattle.std.proofs.lemmas.List.{append_assoc, drop_more, length-append, length-map}
 use Rattle.std.proofs.lemmas.Bool.{eqb-true}
 use Rattle.lotos_base.specs.Signature.{Signature, Operation}
 use Rattle.lotos_base.specs.Sorting.{HasSort}
@@ -14,8 +14,8 @@ use Rattle.sort_terms.specs.ProfiledTerm.{ProfiledTerm, bare, head_sort, FitsPro
 use Rattle.sort_terms.specs.SortedView.{profiled_in, term_in}
 use Rattle.sort_terms.specs.declared.sorted.Sorted.{Sorted}
 use Rattle.sort_terms.proofs.ProfiledTermLemmas.{fitting_has_sort}
-use Rattle.value_lists.specs.InstanceList.{IsChoice}
-use Rattle.value_lists.specs.Search.{found_for, found_from, with_next, found_up_to}
+use Rattle.value_lists.specs.InstanceList.{IsGroundChoice}
+use Rattle.value_lists.specs.Search.{found_for, found_from, with_next_operation, found_up_to}
 use Rattle.value_lists.specs.ValueList.{IsValueList, HasMoreValues, HasUpToValues}
 use Rattle.value_lists.proofs.RisingLists.{Among, from_filter}
 use Rattle.value_lists.proofs.SearchLemmas.{trial_of}
@@ -51,14 +51,6 @@ each_full keep smaller left operations found whole i room operation within is fu
     is refl so_far)
     (longer (found ++ found_for (trial_of keep smaller i operation) left)
     (found_from keep smaller left (i + 1) (drop (i + 1) operations)) room full)
-
-pub each_done : (keep : ProfiledTerm → Bool) (smaller : List ProfiledTerm) (left : ℕ) (operations : List Operation)
-    (found whole : List ProfiledTerm) (i : ℕ) → length operations ≤ i
-    → found ++ found_from keep smaller left i (drop i operations) ≡ whole → found ≡ whole
-each_done keep smaller left operations found whole i all so_far =
-    sym (append-nil found)
-    ∙ ap (λ (os : List Operation). found ++ found_from keep smaller left i os) (sym (drop_all i operations all))
-    ∙ so_far
 
 -- ---- One size after the other
 
@@ -110,10 +102,10 @@ module _ (signature : Signature) (rules : List Rule) (size : ℕ) where
       (value_list signature rules size sort found table)
 
   pub listed_choices : (sort : ℕ) (xs : List Sorted)
-      → map profiled_in xs ≡ filter (λ t. nat_eq (head_sort t) sort) found → Every (IsChoice signature sort) (map profiled_in xs)
+      → map profiled_in xs ≡ filter (λ t. nat_eq (head_sort t) sort) found → Every (IsGroundChoice signature sort) (map profiled_in xs)
   listed_choices sort xs is =
-      subst (λ (ts : List ProfiledTerm). Every (IsChoice signature sort) ts) (sym is)
-      (every_among (IsChoice signature sort) (filter (λ t. nat_eq (head_sort t) sort) found)
+      subst (λ (ts : List ProfiledTerm). Every (IsGroundChoice signature sort) ts) (sym is)
+      (every_among (IsGroundChoice signature sort) (filter (λ t. nat_eq (head_sort t) sort) found)
       (λ t h.
       let passed = from_filter (λ u. nat_eq (head_sort u) sort) found t h in
       let value = (table.sound t passed.0).0 in
@@ -138,7 +130,7 @@ module _ (signature : Signature) (rules : List Rule) (size : ℕ) where
 
 -- where one size is too much, a larger one is
 pub full_later : (signature : Signature) (rules : List Rule) (size limit number : ℕ) → size < limit
-    → number < length (with_next (keeps signature rules) signature.operations size
+    → number < length (with_next_operation (keeps signature rules) signature.operations size
     (found_up_to (keeps signature rules) signature.operations size))
     → HasMoreValues signature (IsNormal rules) limit number
 full_later signature rules size limit number less full =

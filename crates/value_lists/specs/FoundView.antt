@@ -9,11 +9,11 @@ use Rattle.sort_terms.specs.Operations.{operation_of}
 use Rattle.sort_terms.specs.ProfiledTerm.{ProfiledTerm, bare}
 use Rattle.sort_terms.specs.declared.operations.Op.{Op}
 use Rattle.value_lists.specs.RootTest.{no_rule_matches}
-use Rattle.value_lists.specs.Search.{found_from, with_next}
+use Rattle.value_lists.specs.Search.{found_from, with_next_operation}
 
 -- the operations that are shared
-abbrev pub operations_in : List (Rc Op Global) → List Operation
-operations_in profiles = map (λ (profile : Rc Op Global). operation_of profile.value) profiles
+abbrev pub shared_operations_in : List (Rc Op Global) → List Operation
+shared_operations_in profiles = map (λ (profile : Rc Op Global). operation_of profile.value) profiles
 
 -- whether no rule matches the term
 abbrev pub kept_by : Rules → ProfiledTerm → Bool
@@ -25,4 +25,4 @@ found_for_each rules smaller size first operations = found_from (kept_by rules) 
 
 -- the smaller values, and those with one operation more
 abbrev pub with_more : Rules → List Operation → ℕ → List ProfiledTerm → List ProfiledTerm
-with_more rules operations size smaller = with_next (kept_by rules) operations size smaller
+with_more rules operations size smaller = with_next_operation (kept_by rules) operations size smaller

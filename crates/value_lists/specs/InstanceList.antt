@@ -21,15 +21,15 @@ use Rattle.event_offers.specs.declared.drafts.Entry.{Entry}
 use Rattle.value_lists.specs.Tuples.{IsTuple, TupleBefore}
 
 -- the terms of the lists
-abbrev pub lists_of : List (Vec Sorted Global) → List (List Term)
-lists_of lists = map (λ (list : Vec Sorted Global). terms_of list.items) lists
+abbrev pub term_lists_of : List (Vec Sorted Global) → List (List Term)
+term_lists_of lists = map (λ (list : Vec Sorted Global). terms_of list.items) lists
 
 -- the same with profiles
-abbrev pub profiles_in : List (Vec Sorted Global) → List (List ProfiledTerm)
-profiles_in lists = map (λ (list : Vec Sorted Global). profiles_of list.items) lists
+abbrev pub profiled_lists_in : List (Vec Sorted Global) → List (List ProfiledTerm)
+profiled_lists_in lists = map (λ (list : Vec Sorted Global). profiles_of list.items) lists
 
 -- The term is a ground term of the sort, with the profiles of the signature.
-pub record IsChoice (signature : Signature) (sort : ℕ) (t : ProfiledTerm) : Type 0 where
+pub record IsGroundChoice (signature : Signature) (sort : ℕ) (t : ProfiledTerm) : Type 0 where
   pub is_of : IsOf signature t
   pub is_ground : IsGroundOf signature sort (bare t)
 
@@ -39,7 +39,7 @@ AreChoices signature [] [] = Unit {0}
 AreChoices signature [] (choice ∷ choices) = ⊥
 AreChoices signature (sort ∷ sorts) [] = ⊥
 AreChoices signature (sort ∷ sorts) (choice ∷ choices) =
-    Every (IsChoice signature sort) choice × AreChoices signature sorts choices
+    Every (IsGroundChoice signature sort) choice × AreChoices signature sorts choices
 
 -- The terms meet the conditions of the entry: the equations derive each of them with the terms put for the variables.
 abbrev pub MeetConditions : Data → Entry → List Term → Type 0

@@ -13,12 +13,12 @@ use Rattle.value_lists.specs.TermOrder.{term_size, ComesBefore}
 use Rattle.value_lists.specs.ValueList.{IsValueList, ListsInOrder}
 
 -- no term comes before itself
-abbrev pub OrderIsIrreflexive : Type 0
-OrderIsIrreflexive = (t : Term) → ¬ ComesBefore t t
+abbrev pub ComesBeforeIsIrreflexive : Type 0
+ComesBeforeIsIrreflexive = (t : Term) → ¬ ComesBefore t t
 
 -- what comes before a term that comes before another one comes before that one
-abbrev pub OrderIsTransitive : Type 0
-OrderIsTransitive = (t u v : Term) → ComesBefore t u → ComesBefore u v → ComesBefore t v
+abbrev pub ComesBeforeIsTransitive : Type 0
+ComesBeforeIsTransitive = (t u v : Term) → ComesBefore t u → ComesBefore u v → ComesBefore t v
 
 -- of two ground terms of a signature that differ one comes before the other
 abbrev pub OrderIsTotal : Type 0

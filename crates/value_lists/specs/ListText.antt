@@ -26,9 +26,9 @@ value_lines signature (value ∷ values) = ended (entry_term_text signature valu
 abbrev pub value_list_text : Signature → List Term → List ℕ
 value_list_text signature values = ended (codes "values " ++ decimal (length values)) ++ value_lines signature values
 
-abbrev pub values_text : SessionBasis → ListOutcome (List Term) → List ℕ
-values_text basis (listed values) = value_list_text basis.data_.signature values
-values_text basis (refused refusal) = list_refusal_text refusal
+abbrev pub listed_values_text : SessionBasis → ListOutcome (List Term) → List ℕ
+listed_values_text basis (listed values) = value_list_text basis.data_.signature values
+listed_values_text basis (refused refusal) = list_refusal_text refusal
 
 -- by what instances are printed: the signature of terms, the names of gates, and canonical forms
 pub record Printing : Type 0 where

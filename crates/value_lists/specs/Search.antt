@@ -15,8 +15,8 @@ pub record Trial : Type 0 where
   pub operation : Operation
 
 -- the operation on these arguments
-abbrev pub applied : Trial → List ProfiledTerm → ProfiledTerm
-applied trial arguments = profiled_node trial.number trial.operation (profiled_terms arguments)
+abbrev pub trial_applied : Trial → List ProfiledTerm → ProfiledTerm
+trial_applied trial arguments = profiled_node trial.number trial.operation (profiled_terms arguments)
 
 -- whether the term can be the next argument: it has the sort, and so many of what is left for the arguments are left for
 -- those behind it, each of which has one operation at least
@@ -26,7 +26,7 @@ suits sort behind left t = nat_eq (head_sort t) sort && nat_le (term_size (bare 
 -- the operation on the arguments that are chosen already, if nothing is left for others and it is kept
 abbrev pub kept : Trial → List ProfiledTerm → ℕ → List ProfiledTerm
 kept trial chosen left =
-    if nat_eq left 0 then (if trial.keeps (applied trial chosen) then applied trial chosen ∷ [] else []) else []
+    if nat_eq left 0 then (if trial.keeps (trial_applied trial chosen) then trial_applied trial chosen ∷ [] else []) else []
 
 -- what is found where some arguments are chosen already, with the sorts of those behind them, whose sizes are together
 -- what is left
@@ -59,10 +59,10 @@ found_from keeps smaller left f (operation ∷ operations) =
     ++ found_from keeps smaller left (suc f) operations
 
 -- the values with one operation more, behind those with at most so many
-abbrev pub with_next : (ProfiledTerm → Bool) → List Operation → ℕ → List ProfiledTerm → List ProfiledTerm
-with_next keeps operations size smaller = smaller ++ found_from keeps smaller size 0 operations
+abbrev pub with_next_operation : (ProfiledTerm → Bool) → List Operation → ℕ → List ProfiledTerm → List ProfiledTerm
+with_next_operation keeps operations size smaller = smaller ++ found_from keeps smaller size 0 operations
 
 -- the values with at most so many operations
 abbrev pub found_up_to : (ProfiledTerm → Bool) → List Operation → ℕ → List ProfiledTerm
 found_up_to keeps operations zero = []
-found_up_to keeps operations (suc size) = with_next keeps operations size (found_up_to keeps operations size)
+found_up_to keeps operations (suc size) = with_next_operation keeps operations size (found_up_to keeps operations size)

@@ -3,11 +3,11 @@ use Rattle.std.specs.Prelude.{◌≡◌, ◌≤◌, ◌<◌, ◌+◌, ℕ, Bool,
 use Rattle.path_order.specs.RulesView.{plain_rules_in}
 use Rattle.sort_terms.specs.Operations.{operation_of}
 use Rattle.sort_terms.specs.ProfiledTerm.{ProfiledTerm, bare}
-use Rattle.sort_terms.specs.TermView.{profiled_of, terms_of}
+use Rattle.sort_terms.specs.TermView.{profiled_of, bare_terms_of}
 use Rattle.sort_terms.specs.declared.terms.Term.{Term}
 use Rattle.value_lists.specs.RootTest.{no_rule_matches}
 use Rattle.value_lists.specs.Search as plain
-use Rattle.value_lists.specs.Search.{found_behind, found_by, applied, kept, suits}
+use Rattle.value_lists.specs.Search.{found_behind, found_by, trial_applied, kept, suits}
 use Rattle.value_lists.specs.TermOrder.{term_sizes}
 use Rattle.value_lists.specs.declared.trials.Trial.{Trial}
 use Rattle.value_lists.specs.declared.value.Value.{Value}
@@ -29,11 +29,11 @@ trial_of trial = record {
 }
 
 -- the sorts of its arguments, and of those behind the chosen ones
-abbrev pub sorts_of : Trial → List ℕ
-sorts_of trial = (operation_of trial.profile.now.value).arguments
+abbrev pub trial_sorts_of : Trial → List ℕ
+trial_sorts_of trial = (operation_of trial.profile.now.value).arguments
 
 abbrev pub sorts_behind : Trial → List Term → List ℕ
-sorts_behind trial chosen = drop (length chosen) (sorts_of trial)
+sorts_behind trial chosen = drop (length chosen) (trial_sorts_of trial)
 
 -- whether the value can be the argument whose sort is the first of these
 abbrev pub suits_at : List ℕ → ℕ → Value → Bool
@@ -58,13 +58,13 @@ found_here trial chosen left = kept (trial_of trial) (map profiled_of chosen) le
 
 -- the operation on the chosen arguments
 abbrev pub applied_in : Trial → List Term → ProfiledTerm
-applied_in trial chosen = applied (trial_of trial) (map profiled_of chosen)
+applied_in trial chosen = trial_applied (trial_of trial) (map profiled_of chosen)
 
 -- Another argument may be chosen.
 abbrev pub HasPlace : Trial → List Term → Type 0
-HasPlace trial chosen = length chosen < length (sorts_of trial)
+HasPlace trial chosen = length chosen < length (trial_sorts_of trial)
 
 -- No more arguments are chosen than there are, and with those that are left the operation has the size.
 pub record IsPart (trial : Trial) (chosen : List Term) (left : ℕ) : Type 0 where
-  pub places : length chosen ≤ length (sorts_of trial)
-  pub sizes : term_sizes (terms_of chosen) + left + 1 ≡ trial.size
+  pub places : length chosen ≤ length (trial_sorts_of trial)
+  pub sizes : term_sizes (bare_terms_of chosen) + left + 1 ≡ trial.size

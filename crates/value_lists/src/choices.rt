@@ -5,7 +5,7 @@ ghost use Rattle.rewriting_theory.specs.Rewriting.{IsNormal};
 ghost use Rattle.sort_terms.specs.SignatureView.{signature_of};
 ghost use Rattle.std.specs.Prelude.{◌<◌, IfErr, IfOk, length};
 ghost use Rattle.value_lists.specs.FaultMeaning.{FaultMeans};
-ghost use Rattle.value_lists.specs.InstanceList.{AreChoices, lists_of, profiles_in};
+ghost use Rattle.value_lists.specs.InstanceList.{AreChoices, term_lists_of, profiled_lists_in};
 ghost use Rattle.value_lists.specs.ValueList.{AreValueLists, HasMoreValues, HasUpToValues};
 
 use crate::limits::MAX_VALUES;
@@ -26,9 +26,9 @@ pub fn values_of_each(
     size: u32,
 ) -> Result<Vec<Vec<Sorted>>, ListFault>
     ensures lists { IfOk result (λ lists. AreValueLists (signature_of signature.now)
-        (IsNormal (plain_rules_in rules.now)) size sorts.now.items (lists_of lists.items)) }
+        (IsNormal (plain_rules_in rules.now)) size sorts.now.items (term_lists_of lists.items)) }
     ensures choices { IfOk result (λ lists. AreChoices (signature_of signature.now) sorts.now.items
-        (profiles_in lists.items)) }
+        (profiled_lists_in lists.items)) }
     ensures few { IfOk result (λ _. 0 < length sorts.now.items → HasUpToValues
         (signature_of signature.now) (IsNormal (plain_rules_in rules.now)) size MAX_VALUES) }
     ensures fault { IfErr result (λ fault. FaultMeans ((0 < length sorts.now.items)

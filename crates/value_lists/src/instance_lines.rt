@@ -27,8 +27,8 @@ ghost use Rattle.behaviour_tree.specs.BehaviourView.{terms_of};
 ghost use Rattle.value_lists.specs.InstanceList.{
   AreChoices,
   AreTuplesOver,
-  lists_of,
-  profiles_in,
+  term_lists_of,
+  profiled_lists_in,
 };
 
 use crate::instances::instances_of;
@@ -56,11 +56,11 @@ pub fn push_instance_list<D: Deciding>(
     requires sides { HasSortedSides (D.known_data decider.old) }
     requires over { IsEntryOf (D.known_data decider.old).signature entry.now }
     requires choices { AreChoices (D.known_data decider.old).signature entry.now.vars.items
-        (profiles_in choices.now) }
+        (profiled_lists_in choices.now) }
     ensures added { (basis : SessionBasis) (menu : List solving.Entry) (size : ℕ)
         → IsPrintedFor basis (D.known_data decider.old) (D.canon decider.old) gates.now
         → entry_numbered menu number ≡ Some (plain_entry entry.now)
-        → HasChoices basis (plain_entry entry.now) size (lists_of choices.now)
+        → HasChoices basis (plain_entry entry.now) size (term_lists_of choices.now)
         → OnOk result (AddsList (InstancesComeTo basis menu number size)
         (instances_text basis number) into.old.items into.new.items) }
     ensures same_known { KeepsData D.known_data D.canon decider.old decider.new }
@@ -96,7 +96,7 @@ fn push_instances<D: Deciding>(
         tuples.now }
     ensures added { OnOk result (into.new.items ≡ into.old.items ++ instance_list_text
         (printing_with signature.now gates.now (D.canon decider.old)) number (plain_entry entry.now)
-        (lists_of tuples.now)) }
+        (term_lists_of tuples.now)) }
     ensures same_known { KeepsData D.known_data D.canon decider.old decider.new }
 {
     push_text(into, b"instances ")?;
@@ -120,7 +120,7 @@ fn push_instance_lines<D: Deciding>(
         tuples.now }
     ensures added { OnOk result (into.new.items ≡ into.old.items ++ instance_lines
         (printing_with signature.now gates.now (D.canon decider.old)) number (plain_entry entry.now)
-        (lists_of tuples.now)) }
+        (term_lists_of tuples.now)) }
     ensures same_known { KeepsData D.known_data D.canon decider.old decider.new }
 {
     for values in tuples {

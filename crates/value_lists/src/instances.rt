@@ -9,9 +9,9 @@ ghost use Rattle.value_lists.specs.FaultMeaning.{FaultMeans};
 ghost use Rattle.value_lists.specs.InstanceList.{
   AreChoices,
   AreTuplesOver,
-  lists_of,
+  term_lists_of,
   ListsInstances,
-  profiles_in,
+  profiled_lists_in,
 };
 ghost use Rattle.value_lists.specs.Tried.{IsTried};
 ghost use Rattle.value_lists.specs.Tuples.{tuple_count};
@@ -39,14 +39,14 @@ pub fn instances_of<D: Deciding>(
 ) -> Result<Vec<Vec<Sorted>>, ListFault>
     requires over { IsEntryOf (D.known_data decider.old).signature entry.now }
     requires choices { AreChoices (D.known_data decider.old).signature entry.now.vars.items
-        (profiles_in choices.now) }
+        (profiled_lists_in choices.now) }
     ensures instances { IfOk result (λ tuples. ListsInstances (D.known_data decider.old) entry.now
-        (lists_of choices.now) (lists_of tuples.items)) }
+        (term_lists_of choices.now) (term_lists_of tuples.items)) }
     ensures values { IfOk result (λ tuples. AreTuplesOver (D.known_data decider.old).signature
         entry.now.vars.items tuples.items) }
-    ensures few { IfOk result (λ _. tuple_count (lists_of choices.now) ≤ MAX_INSTANCES) }
+    ensures few { IfOk result (λ _. tuple_count (term_lists_of choices.now) ≤ MAX_INSTANCES) }
     ensures fault { IfErr result (λ fault. FaultMeans ⊥
-        (MAX_INSTANCES < tuple_count (lists_of choices.now)) fault) }
+        (MAX_INSTANCES < tuple_count (term_lists_of choices.now)) fault) }
     ensures same_known { KeepsData D.known_data D.canon decider.old decider.new }
 {
     let Some(count) = count(choices) else {
@@ -65,10 +65,10 @@ fn instances_among<D: Deciding>(
 ) -> Result<Vec<Vec<Sorted>>, NoMemory>
     requires over { IsEntryOf (D.known_data decider.old).signature entry.now }
     requires choices { AreChoices (D.known_data decider.old).signature entry.now.vars.items
-        (profiles_in choices.now) }
-    requires count { count ≡ tuple_count (profiles_in choices.now) }
+        (profiled_lists_in choices.now) }
+    requires count { count ≡ tuple_count (profiled_lists_in choices.now) }
     ensures instances { IfOk result (λ tuples. ListsInstances (D.known_data decider.old) entry.now
-        (lists_of choices.now) (lists_of tuples.items)) }
+        (term_lists_of choices.now) (term_lists_of tuples.items)) }
     ensures values { IfOk result (λ tuples. AreTuplesOver (D.known_data decider.old).signature
         entry.now.vars.items tuples.items) }
     ensures same_known { KeepsData D.known_data D.canon decider.old decider.new }
@@ -93,7 +93,7 @@ fn add_if_met<D: Deciding>(
         one.items }
     ensures tried { OnOk result (IsTried (D.known_data decider.old) entry.now
         (map term_in one.items)
-        (lists_of found.old.items) (lists_of found.new.items)) }
+        (term_lists_of found.old.items) (term_lists_of found.new.items)) }
     ensures values { OnOk result (AreTuplesOver (D.known_data decider.old).signature
         entry.now.vars.items found.old.items → AreTuplesOver (D.known_data decider.old).signature
         entry.now.vars.items found.new.items) }

@@ -4,9 +4,9 @@ ghost use Rattle.value_lists.specs.ListLaws.{
   EachClassHasOneValue,
   IrreducibleTermsStay,
   LargeClassesHaveNoValue,
-  OrderIsIrreflexive,
+  ComesBeforeIsIrreflexive,
   OrderIsTotal,
-  OrderIsTransitive,
+  ComesBeforeIsTransitive,
   SmallerTermsComeFirst,
   ThereIsAValueList,
   ThereIsOneValueList,
@@ -16,8 +16,8 @@ ghost use Rattle.value_lists.specs.Tuples.{TuplesAreListedOnce};
 /// The order of values is a strict one, and of two ground terms of a signature that differ one
 /// comes first: the smaller one, if their sizes differ.
 pub fn values_are_ordered()
-    ensures irreflexive { OrderIsIrreflexive }
-    ensures transitive { OrderIsTransitive }
+    ensures irreflexive { ComesBeforeIsIrreflexive }
+    ensures transitive { ComesBeforeIsTransitive }
     ensures total { OrderIsTotal }
     ensures smaller { SmallerTermsComeFirst }
 {}

@@ -29,7 +29,7 @@ ghost use Rattle.value_lists.specs.TrialView.{
   HasPlace,
   IsPart,
   leaves_over_at,
-  sorts_of,
+  trial_sorts_of,
   suits_at,
   trial_of,
   values_in,
@@ -178,15 +178,15 @@ impl Trial<'_> {
 
     // How many arguments the operation has.
     fn arity(&self) -> usize
-        ensures { result ≡ length (sorts_of self.now) }
+        ensures { result ≡ length (trial_sorts_of self.now) }
     {
         self.profile.arguments.len()
     }
 
     // Whether the value can be the argument at this place, with what is left.
     fn suits_next(&self, value: &Value, at: usize, left: u32) -> bool
-        requires { at < length (sorts_of self.now) }
-        ensures { result ≡ suits_at (drop at (sorts_of self.now)) left value.now }
+        requires { at < length (trial_sorts_of self.now) }
+        ensures { result ≡ suits_at (drop at (trial_sorts_of self.now)) left value.now }
     {
         let behind = self.profile.arguments.len() - at - 1;
         is_suited(value, self.profile.arguments[at], behind, left)
@@ -195,8 +195,8 @@ impl Trial<'_> {
     // Whether the value would be the last argument and something be left behind it, so that nothing
     // is found with it.
     fn leaves_over(&self, value: &Value, at: usize, left: u32) -> bool
-        requires { at < length (sorts_of self.now) }
-        ensures { result ≡ leaves_over_at (drop at (sorts_of self.now)) left value.now }
+        requires { at < length (trial_sorts_of self.now) }
+        ensures { result ≡ leaves_over_at (drop at (trial_sorts_of self.now)) left value.now }
     {
         is_left_over(value, self.arity() - at - 1, left)
     }

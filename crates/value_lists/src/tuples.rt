@@ -3,7 +3,7 @@
 ghost use Rattle.behaviour_tree.specs.BehaviourTerms.{profiles_of};
 ghost use Rattle.sort_terms.specs.ProfiledTerm.{profiled_variable};
 ghost use Rattle.std.specs.Prelude.{◌≡◌, ◌<◌, ◌≤◌, IfOk, MatchOption};
-ghost use Rattle.value_lists.specs.InstanceList.{profiles_in};
+ghost use Rattle.value_lists.specs.InstanceList.{profiled_lists_in};
 ghost use Rattle.value_lists.specs.TupleNumbers.{has_empty, tuple_at};
 ghost use Rattle.value_lists.specs.Tuples.{tuple_count};
 
@@ -14,8 +14,8 @@ use std::alloc::Global;
 
 /// The product of the lengths of the lists, or `None` exactly where it is above 100,000.
 pub fn count(choices: &[Vec<Sorted>]) -> Option<usize>
-    ensures { MatchOption result (MAX_INSTANCES < tuple_count (profiles_in choices.now))
-        (λ n. (n ≡ tuple_count (profiles_in choices.now)) × (n ≤ MAX_INSTANCES)) }
+    ensures { MatchOption result (MAX_INSTANCES < tuple_count (profiled_lists_in choices.now))
+        (λ n. (n ≡ tuple_count (profiled_lists_in choices.now)) × (n ≤ MAX_INSTANCES)) }
 {
     if some_is_empty(choices) {
         return Some(0);
@@ -35,7 +35,7 @@ pub fn count(choices: &[Vec<Sorted>]) -> Option<usize>
 
 // Whether one of the lists is empty.
 fn some_is_empty(choices: &[Vec<Sorted>]) -> bool
-    ensures { result ≡ has_empty (profiles_in choices.now) }
+    ensures { result ≡ has_empty (profiled_lists_in choices.now) }
 {
     for choice in choices {
         if choice.is_empty() {
@@ -53,10 +53,10 @@ pub fn tuple(
     count: usize,
     number: usize,
 ) -> Result<Vec<Sorted>, NoMemory>
-    requires count { count ≡ tuple_count (profiles_in choices.now) }
+    requires count { count ≡ tuple_count (profiled_lists_in choices.now) }
     requires number { number < count }
     ensures { IfOk result (λ tuple. profiles_of tuple.items
-        ≡ tuple_at (profiles_in choices.now) number (profiled_variable 0 0)) }
+        ≡ tuple_at (profiled_lists_in choices.now) number (profiled_variable 0 0)) }
 {
     let mut rest = count;
     let mut place = number;

@@ -1,7 +1,7 @@
 //! The values of a sort, in answer to a line.
 
 ghost use Rattle.value_lists.specs.ListOutcome.{ValuesComeTo};
-ghost use Rattle.value_lists.specs.ListText.{value_lines, value_list_text, values_text};
+ghost use Rattle.value_lists.specs.ListText.{value_lines, value_list_text, listed_values_text};
 ghost use Rattle.value_lists.specs.ListView.{AddsList, HasRules};
 ghost use Rattle.session_histories.specs.HandedOn.{written_value};
 ghost use Rattle.session_histories.specs.Session.{SessionBasis};
@@ -35,7 +35,7 @@ pub fn push_value_list(
     requires read { signature_read reader.now ≡ signature_of signature.now }
     ensures { (basis : SessionBasis) → HasRules basis (signature_of signature.now)
         (plain_rules_in rules.now) → OnOk result (AddsList (ValuesComeTo basis name.now size)
-        (values_text basis) into.old.items into.new.items) }
+        (listed_values_text basis) into.old.items into.new.items) }
 {
     let alloc = *into.allocator();
     let called = Name::of(Vec::from_slice(alloc, name)?);
@@ -56,7 +56,7 @@ fn push_values_of(
 ) -> Result<(), NoMemory>
     ensures { (basis : SessionBasis) (name : List ℕ) → HasRules basis (signature_of signature.now)
         (plain_rules_in rules.now) → IsSortNamed (signature_of signature.now) sort name
-        → OnOk result (AddsList (ValuesComeTo basis name size) (values_text basis)
+        → OnOk result (AddsList (ValuesComeTo basis name size) (listed_values_text basis)
         into.old.items into.new.items) }
 {
     match values_of(*into.allocator(), signature, rules, sort, size) {

@@ -10,8 +10,8 @@ ghost use Rattle.sort_terms.specs.SortedView.{profiled_in, term_in};
 ghost use Rattle.std.specs.List.{filter};
 ghost use Rattle.std.specs.Prelude.{◌≡◌, ◌<◌, ◌≤◌, ◌^◌, ◌+◌, ◌++◌, IfErr, IfOk, OnOk, length, map, nat_eq};
 ghost use Rattle.value_lists.specs.FaultMeaning.{FaultMeans};
-ghost use Rattle.value_lists.specs.FoundView.{found_for_each, kept_by, operations_in, with_more};
-ghost use Rattle.value_lists.specs.InstanceList.{IsChoice};
+ghost use Rattle.value_lists.specs.FoundView.{found_for_each, kept_by, shared_operations_in, with_more};
+ghost use Rattle.value_lists.specs.InstanceList.{IsGroundChoice};
 ghost use Rattle.value_lists.specs.TrialView.{values_in};
 ghost use Rattle.value_lists.specs.ValueList.{HasMoreValues, HasUpToValues, IsValueList};
 
@@ -47,7 +47,8 @@ pub fn values_of(
 ) -> Result<Vec<Sorted>, ListFault>
     ensures list { IfOk result (λ values. IsValueList (signature_of signature.now)
         (IsNormal (plain_rules_in rules.now)) size sort (map term_in values.items)) }
-    ensures choices { IfOk result (λ values. Every (IsChoice (signature_of signature.now) sort)
+    ensures choices { IfOk result
+        (λ values. Every (IsGroundChoice (signature_of signature.now) sort)
         (map profiled_in values.items)) }
     ensures few { IfOk result (λ values. HasUpToValues (signature_of signature.now)
         (IsNormal (plain_rules_in rules.now)) size MAX_VALUES) }
@@ -65,7 +66,7 @@ pub fn values_of(
 
 // The operations, to be shared by terms.
 fn shared_profiles(alloc: Global, ops: &[Op]) -> Result<Vec<Rc<Op>>, NoMemory>
-    ensures { IfOk result (λ made. operations_in made.items ≡ map operation_of ops.now) }
+    ensures { IfOk result (λ made. shared_operations_in made.items ≡ map operation_of ops.now) }
 {
     let mut made = Vec::with_capacity(alloc, ops.len())?;
     for op in ops {
@@ -86,10 +87,10 @@ fn extend(
     requires count { length profiles.now < 2 ^ 32 }
     requires room { length values.old.items ≤ MAX_VALUES }
     ensures values { OnOk result (values_in values.new.items ≡ with_more rules.now
-        (operations_in profiles.now) size (values_in values.old.items)) }
+        (shared_operations_in profiles.now) size (values_in values.old.items)) }
     ensures room { OnOk result (length values.new.items ≤ MAX_VALUES) }
     ensures fault { IfErr result (λ fault. FaultMeans (MAX_VALUES < length (with_more rules.now
-        (operations_in profiles.now) size (values_in values.old.items))) ⊥ fault) }
+        (shared_operations_in profiles.now) size (values_in values.old.items))) ⊥ fault) }
 {
     let mut found = next_values(alloc, rules, profiles, size, values)?;
     values.append(&mut found)?;
@@ -108,12 +109,12 @@ fn next_values(
     requires count { length profiles.now < 2 ^ 32 }
     requires room { length smaller.now.items ≤ MAX_VALUES }
     ensures found { IfOk result (λ found. values_in found.items ≡ found_for_each rules.now
-        (values_in smaller.now.items) size 0 (operations_in profiles.now)) }
+        (values_in smaller.now.items) size 0 (shared_operations_in profiles.now)) }
     ensures room { IfOk result
         (λ found. length smaller.now.items + length found.items ≤ MAX_VALUES) }
     ensures fault { IfErr result (λ fault. FaultMeans (MAX_VALUES < length smaller.now.items
         + length (found_for_each rules.now (values_in smaller.now.items) size 0
-        (operations_in profiles.now))) ⊥ fault) }
+        (shared_operations_in profiles.now))) ⊥ fault) }
 {
     let room = MAX_VALUES - smaller.len();
     let mut found = Vec::new(alloc);

@@ -5,7 +5,7 @@ use Rattle.behaviour_semantics.specs.Label.{gate_event}
 use Rattle.behaviour_semantics.specs.Shape.{act, left_side, right_side, called, relabelled}
 use Rattle.certificate_theory.specs.Agreement.{AreOneGate}
 use Rattle.certificate_theory.specs.Bisimulation.{turned_round}
-use Rattle.certificate_theory.specs.Certificate.{Reading, ListedPair, first_reading, AreListed, side_of}
+use Rattle.certificate_theory.specs.Certificate.{Reading, ListedPair, first_reading, AreListed, compared_side_of}
 use Rattle.certificate_theory.specs.NamedStates.{LinesAreRead, all_read, one_read, ListsStates, HasClosedMenu}
 use Rattle.certificate_theory.specs.MatchedPairs.{PairIsMatched, AllPairsAreMatched}
 use Rattle.worked_cases.specs.BehaviourSamples.{sample_data, sample_canon}
@@ -30,25 +30,25 @@ abbrev pub state_of : Behaviour → Behaviour → Behaviour
 state_of b c = side_by_side_with b c
 
 -- The closed menus of all states.
-pub closed_none_full : HasClosedMenu (side_of sample_data sample_canon two_buffers) (state_of empty_buffer empty_buffer)
+pub closed_none_full : HasClosedMenu (compared_side_of sample_data sample_canon two_buffers) (state_of empty_buffer empty_buffer)
 closed_none_full = closed_menu two_buffers _ none_full exact_none_full (refl, (refl, tt))
 
-closed_left_full : HasClosedMenu (side_of sample_data sample_canon two_buffers) (state_of full_buffer empty_buffer)
+closed_left_full : HasClosedMenu (compared_side_of sample_data sample_canon two_buffers) (state_of full_buffer empty_buffer)
 closed_left_full = closed_menu two_buffers _ left_full exact_left_full (refl, (refl, tt))
 
-closed_right_full : HasClosedMenu (side_of sample_data sample_canon two_buffers) (state_of empty_buffer full_buffer)
+closed_right_full : HasClosedMenu (compared_side_of sample_data sample_canon two_buffers) (state_of empty_buffer full_buffer)
 closed_right_full = closed_menu two_buffers _ right_full exact_right_full (refl, (refl, tt))
 
-closed_both_full : HasClosedMenu (side_of sample_data sample_canon two_buffers) (state_of full_buffer full_buffer)
+closed_both_full : HasClosedMenu (compared_side_of sample_data sample_canon two_buffers) (state_of full_buffer full_buffer)
 closed_both_full = closed_menu two_buffers _ both_full exact_both_full (refl, (refl, tt))
 
-pub closed_none : HasClosedMenu (side_of sample_data sample_canon two_place_buffer) (place_of_places 0)
+pub closed_none : HasClosedMenu (compared_side_of sample_data sample_canon two_place_buffer) (place_of_places 0)
 closed_none = closed_menu two_place_buffer _ holding_none exact_holding_none (refl, tt)
 
-pub closed_one : HasClosedMenu (side_of sample_data sample_canon two_place_buffer) (place_of_places 1)
+pub closed_one : HasClosedMenu (compared_side_of sample_data sample_canon two_place_buffer) (place_of_places 1)
 closed_one = closed_menu two_place_buffer _ holding_one exact_holding_one (refl, (refl, tt))
 
-closed_two : HasClosedMenu (side_of sample_data sample_canon two_place_buffer) (place_of_places 2)
+closed_two : HasClosedMenu (compared_side_of sample_data sample_canon two_place_buffer) (place_of_places 2)
 closed_two = closed_menu two_place_buffer _ holding_two exact_holding_two (refl, tt)
 
 abbrev pub pair_of : ℕ → Behaviour → Behaviour → ListedPair
@@ -177,8 +177,8 @@ buffers_matched = all_pairs buffers buffer_pairs (first_matched, (second_matched
 -- ---- The lines.
 
 both_states : (r : Reading) (i j : ℕ) (left right : Behaviour) → slice_get r.lefts i ≡ Some left
-    → slice_get r.rights j ≡ Some right → HasClosedMenu (side_of sample_data sample_canon two_buffers) left
-    → HasClosedMenu (side_of sample_data sample_canon two_place_buffer) right → ListsStates buffers r i j left right
+    → slice_get r.rights j ≡ Some right → HasClosedMenu (compared_side_of sample_data sample_canon two_buffers) left
+    → HasClosedMenu (compared_side_of sample_data sample_canon two_place_buffer) right → ListsStates buffers r i j left right
 both_states r i j left right named named' closed closed' =
     record { left_named = named; right_named = named'; left_closed = closed; right_closed = closed' }
 

@@ -10,7 +10,8 @@ use Rattle.behaviour_semantics.specs.Rule.{AreValues}
 use Rattle.behaviour_semantics.specs.Solving.{Entry}
 use Rattle.behaviour_semantics.specs.Menu.{IsEntry}
 use Rattle.behaviour_semantics.proofs.OptionLemmas.{some_value}
-use Rattle.worked_cases.specs.BehaviourSamples.{bool_sort, nat_sort, empty_sort, sample_signature, sample_data, sample_canon, succ, nought, one, two, truth, falsehood, less, plus}
+use Rattle.lotos_base.specs.SmallData.{nought}
+use Rattle.worked_cases.specs.BehaviourSamples.{sample_bool_sort, nat_sort, empty_sort, sample_signature, sample_data, sample_canon, succ, one, two, truth, falsehood, less, sample_plus}
 use Rattle.worked_cases.proofs.SampleCanon.{sample_is_canon}
 use Rattle.worked_cases.proofs.TermTests.{ground_in}
 
@@ -42,8 +43,8 @@ one_entry P known e (suc k, at) h = absurd (cc at)
 -- 2 is not below 2, and 1 is.
 pub two_not_below_two : Equal sample_data (less two two) truth → ⊥
 two_not_below_two e =
-    let same : falsehood ≡ truth = sample_is_canon.decides (less two two) truth bool_sort
-    (ground_in sample_signature bool_sort (less two two) refl) (ground_in sample_signature bool_sort truth refl) e in
+    let same : falsehood ≡ truth = sample_is_canon.decides (less two two) truth sample_bool_sort
+    (ground_in sample_signature sample_bool_sort (less two two) refl) (ground_in sample_signature sample_bool_sort truth refl) e in
     absurd (cc same)
 
 -- 0 is not 1.
@@ -54,9 +55,9 @@ nought_not_one e =
     absurd (cc same)
 
 -- `Succ(0) + 0` is 1.
-pub sum_is_one : Equal sample_data (plus one nought) one
-sum_is_one = canon_tells sample_data sample_canon (plus one nought) one nat_sort sample_is_canon
-    (ground_in sample_signature nat_sort (plus one nought) refl) (ground_in sample_signature nat_sort one refl) refl
+pub sum_is_one : Equal sample_data (sample_plus one nought) one
+sum_is_one = canon_tells sample_data sample_canon (sample_plus one nought) one nat_sort sample_is_canon
+    (ground_in sample_signature nat_sort (sample_plus one nought) refl) (ground_in sample_signature nat_sort one refl) refl
 
 -- `true` is no number, and 0 is one.
 pub truth_not_sorted : HasSort sample_signature truth nat_sort → ⊥
@@ -72,7 +73,7 @@ sort_of_nought sort h =
     omega arith
 
 pub sum_ground : (t u : Term) → IsGroundOf sample_signature nat_sort t → IsGroundOf sample_signature nat_sort u
-    → IsGroundOf sample_signature nat_sort (plus t u)
+    → IsGroundOf sample_signature nat_sort (sample_plus t u)
 sum_ground t u h k = record { ground = (h.ground, (k.ground, tt)); sorted = (_, refl, refl, (h.sorted, (k.sorted, tt))) }
 
 -- How often `Succ` stands at the head of a term.

@@ -11,7 +11,7 @@ use Rattle.behaviour_semantics.specs.TransitionLaws.{MovesAreDetermined}
 use Rattle.behaviour_semantics.specs.WellFormed.{Every}
 use Rattle.behaviour_semantics.proofs.InstanceLemmas.{every_at}
 use Rattle.certificate_theory.specs.Agreement.{AgreeingLabels}
-use Rattle.certificate_theory.specs.Certificate.{Comparison, ListedPair, AreListed, side_of}
+use Rattle.certificate_theory.specs.Certificate.{Comparison, ListedPair, AreListed, compared_side_of}
 use Rattle.certificate_theory.specs.NamedStates.{EntryLeads, NamesState, HasClosedMenu, IsClosedEntry, numbered_entry}
 use Rattle.certificate_theory.specs.MatchedPairs.{IsMatched, AreMatched, AllPairsAreMatched, PairIsMatched}
 use Rattle.certificate_theory.proofs.ClosedEntries.{leads_once}
@@ -33,7 +33,7 @@ module _ (specification : Specification) where
   -- A step is shown by its move.
   pub leads : (shape : Shape) (label : Label) (b target : Behaviour)
       → move_of canonical_setting (leaves_in []) shape 0 b ≡ move label target [] []
-      → EntryLeads (side_of sample_data sample_canon specification) b (plain_entry shape label) target
+      → EntryLeads (compared_side_of sample_data sample_canon specification) b (plain_entry shape label) target
   leads shape label b target moves =
       record { label = label; keeps = record { asked = []; sorts = []; move = moves; leaves = tt; holds = tt } }
 
@@ -42,7 +42,7 @@ module _ (specification : Specification) where
       (target : Behaviour) → ExactMenu b menu → slice_get states from ≡ Some b
       → numbered_entry menu number ≡ Some (plain_entry shape label)
       → move_of canonical_setting (leaves_in []) shape 0 b ≡ move label target [] []
-      → NamesState (side_of sample_data sample_canon specification) states from number target
+      → NamesState (compared_side_of sample_data sample_canon specification) states from number target
   names states from number b menu shape label target exact named there moves = record {
     state = b;
     named = named;
@@ -56,13 +56,14 @@ module _ (specification : Specification) where
 
   -- A menu is closed where each of its entries is.
   pub closed_menu : (b : Behaviour) (menu : List Entry) → ExactMenu b menu → Every IsClosedEntry menu
-      → HasClosedMenu (side_of sample_data sample_canon specification) b
+      → HasClosedMenu (compared_side_of sample_data sample_canon specification) b
   closed_menu b menu exact each =
       record { menu = menu; exact = exact; closed = λ e there. every_at IsClosedEntry menu there.0 e each there.1 }
 
 module _ (one other : Specification) (Listed : Behaviour → Behaviour → Type 0) (b c : Behaviour) where
   abbrev pub Match : List Entry → Entry → Type 0
-  Match menu e = IsMatched (side_of sample_data sample_canon one) (side_of sample_data sample_canon other) Listed b c menu e
+  Match menu e =
+      IsMatched (compared_side_of sample_data sample_canon one) (compared_side_of sample_data sample_canon other) Listed b c menu e
 
   -- A match is shown by the place of the answer, two steps, and by what is listed.
   pub matches : (menu : List Entry) (place : ℕ) (shape answer : Shape) (label reply : Label) (target reached : Behaviour)
@@ -82,7 +83,7 @@ module _ (one other : Specification) (Listed : Behaviour → Behaviour → Type 
   }
 
   pub all_match : (menu more : List Entry) → ExactMenu one b menu → ExactMenu other c more → Every (Match more) menu
-      → AreMatched (side_of sample_data sample_canon one) (side_of sample_data sample_canon other) Listed b c
+      → AreMatched (compared_side_of sample_data sample_canon one) (compared_side_of sample_data sample_canon other) Listed b c
   all_match menu more exact exact' each = record {
     menu = menu;
     exact = exact;
@@ -115,7 +116,7 @@ not_listed pairs b c none listed =
 -- Where an entry leads it leads by this move.
 pub leads_to : MovesAreDetermined → (specification : Specification) (b : Behaviour) (shape : Shape) (label : Label)
     (target other : Behaviour) → move_of (canonical_setting specification) (leaves_in []) shape 0 b ≡ move label target [] []
-    → EntryLeads (side_of sample_data sample_canon specification) b (plain_entry shape label) other → other ≡ target
+    → EntryLeads (compared_side_of sample_data sample_canon specification) b (plain_entry shape label) other → other ≡ target
 leads_to determined specification b shape label target other moves led =
     leads_once determined sample_data sample_canon specification b (plain_entry shape label) other target led
     (leads specification shape label b target moves)

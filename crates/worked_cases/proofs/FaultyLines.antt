@@ -3,7 +3,7 @@ use Rattle.std.proofs.Common.{List, [], ◌∷◌, refl}
 use Rattle.behaviour_semantics.specs.Behaviour.{Behaviour, stop}
 use Rattle.behaviour_semantics.specs.Label.{gate_event}
 use Rattle.behaviour_semantics.specs.Shape.{act, left_side, right_side, called}
-use Rattle.certificate_theory.specs.Certificate.{names_left, names_right, lists_pair, no_state, no_entry, open_menu, first_reading, side_of}
+use Rattle.certificate_theory.specs.Certificate.{names_left, names_right, lists_pair, no_state, no_entry, open_menu, first_reading, compared_side_of}
 use Rattle.certificate_theory.specs.NamedStates.{NamesState, HasOpenMenu, ListsStates, right_is_missing, left_is_open, entry_is_missing, entry_is_open, LinesAreRead, all_read, one_read, LinesFail, fails_here, fails_later}
 use Rattle.worked_cases.specs.BehaviourSamples.{sample_data, sample_canon}
 use Rattle.worked_cases.specs.BisimulationCases.{empty_buffer, place_of_places, two_place_buffer, buffers}
@@ -20,11 +20,11 @@ abbrev start_left : List Behaviour
 start_left = state_of empty_buffer empty_buffer ∷ []
 
 -- `r 0 1` from the start
-to_one : NamesState (side_of sample_data sample_canon two_place_buffer) (place_of_places 0 ∷ []) 0 1 (place_of_places 1)
+to_one : NamesState (compared_side_of sample_data sample_canon two_place_buffer) (place_of_places 0 ∷ []) 0 1 (place_of_places 1)
 to_one = names two_place_buffer _ 0 1 _ holding_none (called act) (gate_event 1 []) _ exact_holding_none refl refl refl
 
 -- `r 1 2` after it
-to_none : NamesState (side_of sample_data sample_canon two_place_buffer) (place_of_places 0 ∷ place_of_places 1 ∷ []) 1 2
+to_none : NamesState (compared_side_of sample_data sample_canon two_place_buffer) (place_of_places 0 ∷ place_of_places 1 ∷ []) 1 2
     (place_of_places 0)
 to_none = names two_place_buffer _ 1 2 _ holding_one (called (right_side act)) (gate_event 0 []) _ exact_holding_one refl refl refl
 
@@ -92,7 +92,7 @@ start_again_read =
 
 -- ---- Entries with variables.
 
-asking_open : HasOpenMenu (side_of sample_data sample_canon asking_both.left) asking_both.left_start
+asking_open : HasOpenMenu (compared_side_of sample_data sample_canon asking_both.left) asking_both.left_start
 asking_open = record {
   menu = asking_entry ∷ [];
   exact = exact_asking;

@@ -3,7 +3,8 @@ use Rattle.std.proofs.Common.{◌≡◌, ℕ, List, [], ◌∷◌, slice_get, So
 use Rattle.lotos_base.specs.Signature.{Sort, Operation, IsSort, IsWellFormedSignature}
 use Rattle.lotos_base.specs.Term.{Term}
 use Rattle.lotos_base.proofs.CanonLemmas.{identity_canon}
-use Rattle.lotos_base.proofs.ExampleHelpers.{each_member, one_named}
+use Rattle.lotos_base.proofs.ExampleHelpers.{one_named}
+use Rattle.lotos_base.proofs.Each.{each_member}
 use Rattle.behaviour_semantics.specs.Behaviour.{Behaviour, stop}
 use Rattle.behaviour_semantics.specs.Derives.{Derives}
 use Rattle.behaviour_semantics.specs.Label.{gate_event}

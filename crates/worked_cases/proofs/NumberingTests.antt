@@ -1,14 +1,14 @@
 -- Tests of numberings: all variables of a term, a renaming that keeps them apart, numbers by first appearance.
-use Rattle.std.proofs.Common.{◌≡◌, ◌<◌, ℕ, zero, suc, List, [], ◌∷◌, Bool, true, false, nat_eq, refl, ap, sym, ◌∙◌, inl, inr, arith}
-use Rattle.std.specs.Prelude.{Some, None, ◌⊎◌, ◌&&◌, if◌then◌else◌, slice_get, nat_lt}
+use Rattle.std.proofs.Common.{◌≡◌, ◌<◌, ℕ, zero, suc, List, [], ◌∷◌, Bool, true, false, nat_eq, refl, sym, ◌∙◌, inl, inr, arith}
+use Rattle.std.specs.Prelude.{Some, None, ◌&&◌, if◌then◌else◌, slice_get, nat_lt}
 use Rattle.std.proofs.lemmas.Option.{same_Some}
 use Rattle.std.proofs.lemmas.Bool.Decides.{Decides-eqb, Decides-and}
 use Rattle.std.proofs.lemmas.Bool.{ltb-true, and_parts}
-use Rattle.lotos_base.proofs.Numbers.{smaller}
 use Rattle.lotos_base.specs.Term.{Term, variable, node, Terms, no_terms, term_then}
 use Rattle.lotos_base.specs.Sorting.{Occurs, OccursAmong}
 use Rattle.lotos_base.specs.Canon.{KeepsApart}
 use Rattle.rewriting_theory.specs.Numbering.{variable_numbers, IsByAppearance, IsNumbered}
+use Rattle.rewriting_theory.proofs.NumberLemmas.{later_new, later, StandsBefore}
 
 abbrev mutual
   -- whether each variable of the term passes
@@ -63,24 +63,6 @@ keeps_apart_so number t e = λ n m s o p same.
 abbrev pub goes_on : ℕ → List ℕ → Bool
 goes_on next [] = true
 goes_on next (n ∷ ns) = if nat_lt n next then goes_on next ns else (nat_eq n next && goes_on (suc next) ns)
-
--- A smaller number than the one at a position is smaller than the next new one, or stands before it.
-abbrev StandsBefore : ℕ → List ℕ → ℕ → ℕ → Type 0
-StandsBefore next ns i m = (m < next) ⊎ ((j : ℕ) × (j < i) × (slice_get ns j ≡ Some m))
-
-later : (next n i m : ℕ) (ns : List ℕ) → StandsBefore next ns i m → StandsBefore next (n ∷ ns) (suc i) m
-later next n i m ns (inl less) = inl less
-later next n i m ns (inr (j, less, e)) = inr (suc j, omega (arith, less), e)
-
-later_new : (next n i m : ℕ) (ns : List ℕ) → n ≡ next → StandsBefore (suc next) ns i m → StandsBefore next (n ∷ ns) (suc i) m
-later_new next n i m ns same (inr (j, less, e)) = inr (suc j, omega (arith, less), e)
-later_new next n i m ns same (inl less) = go (nat_eq n m) refl
-  where
-    go : (b : Bool) → nat_eq n m ≡ b → StandsBefore next (n ∷ ns) (suc i) m
-    go true e = inr (0, omega arith, ap (λ (k : ℕ). Some k) ((Decides-eqb n m).0 e))
-    go false e =
-        let differ : n ≡ m → ⊥ = λ is. (let other : nat_eq n m ≡ true = (Decides-eqb n m).1 is in cc) in
-        inl (smaller n m next same less differ)
 
 goes_on_so : (ns : List ℕ) (next : ℕ) → goes_on next ns ≡ true → (i n m : ℕ) → slice_get ns i ≡ Some n → m < n → StandsBefore next ns i m
 goes_on_so [] next e i n m is less = let none : None ≡ Some n = is in cc

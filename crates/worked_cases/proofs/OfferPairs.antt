@@ -5,7 +5,7 @@ use Rattle.behaviour_semantics.specs.Label.{gate_event}
 use Rattle.behaviour_semantics.specs.Shape.{act, left_side, right_side}
 use Rattle.behaviour_semantics.specs.Solving.{Entry, settled}
 use Rattle.behaviour_semantics.specs.Menu.{Exact}
-use Rattle.certificate_theory.specs.Certificate.{side_of}
+use Rattle.certificate_theory.specs.Certificate.{compared_side_of}
 use Rattle.certificate_theory.specs.Agreement.{AreOneGate}
 use Rattle.certificate_theory.specs.NamedStates.{HasClosedMenu}
 use Rattle.certificate_theory.specs.MatchedPairs.{AreMatched}
@@ -27,13 +27,13 @@ ExactAlone b menu = Exact sample_data sample_canon [] b menu
 pub exact_stop : ExactAlone stop []
 exact_stop = (menu [] stop 9 [] refl refl refl tt).exact
 
-pub closed_stop : (body : Behaviour) → HasClosedMenu (side_of sample_data sample_canon (offering_specification body)) stop
+pub closed_stop : (body : Behaviour) → HasClosedMenu (compared_side_of sample_data sample_canon (offering_specification body)) stop
 closed_stop body = closed_menu (offering_specification body) stop [] exact_stop tt
 
 -- Behaviours that stop are matched, whatever is listed.
 pub stops_match : (body other : Behaviour) (Listed : Behaviour → Behaviour → Type 0)
-    → AreMatched (side_of sample_data sample_canon (offering_specification body))
-    (side_of sample_data sample_canon (offering_specification other)) Listed stop stop
+    → AreMatched (compared_side_of sample_data sample_canon (offering_specification body))
+    (compared_side_of sample_data sample_canon (offering_specification other)) Listed stop stop
 stops_match body other Listed =
     all_match (offering_specification body) (offering_specification other) Listed stop stop [] [] exact_stop exact_stop tt
 

@@ -20,7 +20,7 @@ use Rattle.termination_theory.specs.Precedence.{Precedence}
 use Rattle.termination_theory.specs.PathOrder.{IsGreater}
 use Rattle.termination_theory.specs.OrderTest.{is_greater}
 use Rattle.termination_theory.specs.Orientation.{AreOriented}
-use Rattle.termination_theory.specs.OrderCases.{later_above, with_right}
+use Rattle.termination_theory.specs.OrderCases.{later_above, compared_from_right}
 use Rattle.termination_theory.specs.OrientationCases.{constant, on_one, to_the_right, to_the_left, copied_rules}
 use Rattle.termination_theory.proofs.CaseLemmas.{is}
 use Rattle.termination_theory.proofs.CaseTests.{chosen_within, chosen_found}
@@ -191,7 +191,7 @@ apart_cases = record { pairs = never_both_listed; confluent = confluent 20 later
 pub right_status_cases : RightStatusCases
 right_status_cases = record {
   pairs = from_the_right_listed;
-  confluent = confluent 20 (with_right 2) from_the_right [] from_the_right_listed refl refl;
+  confluent = confluent 20 (compared_from_right 2) from_the_right [] from_the_right_listed refl refl;
   sums = left_sums_listed;
-  sums_confluent = confluent 20 (with_right 2) to_the_left left_sums_pairs left_sums_listed refl refl;
+  sums_confluent = confluent 20 (compared_from_right 2) to_the_left left_sums_pairs left_sums_listed refl refl;
 }

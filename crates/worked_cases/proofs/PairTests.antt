@@ -11,7 +11,7 @@ use Rattle.lotos_base.specs.Substitution.{Substitution, substituted, renaming}
 use Rattle.rewriting_theory.specs.Rule.{Rule, IsNode}
 use Rattle.rewriting_theory.specs.Unification.{OccursInEither}
 use Rattle.rewriting_theory.specs.CriticalPair.{OverlapPlace, Overlaps, CriticalPair, IsCriticalPair}
-use Rattle.rewriting_theory.specs.PairList.{PairPlace, place_of}
+use Rattle.rewriting_theory.specs.PairList.{PairPlace, place_of_critical_pair}
 use Rattle.rewriting_theory.specs.PairListLaws.{renamed_pair}
 use Rattle.rewriting_theory.specs.Places.{is_root, IsPairOf, IsApartAt, PairsOf, no_place, no_pair, one_pair}
 use Rattle.rewriting_theory.proofs.OverlapLemmas.{combined, combination_unifies, subterm_occurs}
@@ -197,7 +197,8 @@ raw_critical rules place first second part values right e1 e2 e3 allowed solutio
 }
 
 -- the numbered pair of a critical pair
-numbered_found : (rules : List Rule) (place : PairPlace) (raw pair : CriticalPair) → IsCriticalPair rules raw → place_of raw ≡ place
+numbered_found : (rules : List Rule) (place : PairPlace) (raw pair : CriticalPair) → IsCriticalPair rules raw
+    → place_of_critical_pair raw ≡ place
     → numbered_pair raw ≡ Some pair → IsPairOf rules place pair
 numbered_found rules place raw pair is at e =
     go (keeps_apart number raw.peak && is_numbered (substituted (renaming number) raw.peak)) refl e

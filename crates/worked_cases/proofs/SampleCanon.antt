@@ -10,35 +10,36 @@ use Rattle.lotos_base.specs.Equation.{Equation, IsEquation, IsGroundInstance}
 use Rattle.lotos_base.specs.Equality.{Equal, AllEqual, same_term}
 use Rattle.lotos_base.specs.EqualityLaws.{IsCongruence}
 use Rattle.lotos_base.specs.Canon.{IsCanon}
-use Rattle.lotos_base.proofs.ExampleHelpers.{each_member}
+use Rattle.lotos_base.proofs.Each.{each_member}
 use Rattle.lotos_base.proofs.PathLemmas.{put_below}
 use Rattle.lotos_base.proofs.SubstitutionLemmas.{substituted_sort, instance_ground}
 use Rattle.lotos_base.proofs.EqualityLemmas.{equal_then, equal_under, equal_related}
-use Rattle.worked_cases.specs.BehaviourSamples.{sample_signature, sample_data, sum_of, is_less, applied, sample_canon, sample_canons}
+use Rattle.worked_cases.specs.BehaviourSamples.{sample_signature, sample_data, sum_of, is_less, canonically_applied, sample_canon, sample_canons}
 use Rattle.worked_cases.proofs.SampleOperations.{canon_sum, canon_less, settled_sum, settled_less, occurring_sum, occurring_less, renamed_sum, renamed_less, sorted_sum, sorted_less, plus_arguments, less_arguments, IsNumber, instance_sum, instance_less}
 
 -- An applied operation is a comparison, a sum, or the operation on the arguments.
 applied_cases : (P : ℕ → Terms → Term → Type 0)
     → ((t u : Term) → P 3 (term_then t (term_then u no_terms)) (is_less t u))
     → ((t u : Term) → P 4 (term_then t (term_then u no_terms)) (sum_of t u))
-    → ((f : ℕ) (ts : Terms) → applied f ts ≡ node f ts → P f ts (node f ts)) → (f : ℕ) (ts : Terms) → P f ts (applied f ts)
+    → ((f : ℕ) (ts : Terms) → canonically_applied f ts ≡ node f ts → P f ts (node f ts)) → (f : ℕ) (ts : Terms)
+    → P f ts (canonically_applied f ts)
 applied_cases P order sum stays (suc (suc (suc zero))) (term_then t (term_then u no_terms)) = order t u
 applied_cases P order sum stays (suc (suc (suc (suc zero)))) (term_then t (term_then u no_terms)) = sum t u
 applied_cases P order sum stays f ts = stays f ts refl
 
 -- the canon of an instance may apply the operation before or after
 canon_applied : (values : Substitution) (f : ℕ) (ts : Terms)
-    → sample_canon (substituted values (applied f ts)) ≡ sample_canon (substituted values (node f ts))
+    → sample_canon (substituted values (canonically_applied f ts)) ≡ sample_canon (substituted values (node f ts))
 canon_applied values =
     applied_cases (λ f ts t. sample_canon (substituted values t) ≡ sample_canon (substituted values (node f ts)))
     (canon_less values) (canon_sum values) (λ f ts is. refl)
 
-settled_applied : (f : ℕ) (ts : Terms) → sample_canons ts ≡ ts → sample_canon (applied f ts) ≡ applied f ts
+settled_applied : (f : ℕ) (ts : Terms) → sample_canons ts ≡ ts → sample_canon (canonically_applied f ts) ≡ canonically_applied f ts
 settled_applied =
     applied_cases (λ f ts t. sample_canons ts ≡ ts → sample_canon t ≡ t)
     (λ t u e. settled_less t u (left_settled t u e) (right_settled t u e))
     (λ t u e. settled_sum t u (left_settled t u e) (right_settled t u e))
-    (λ f ts is e. ap (applied f) e ∙ is)
+    (λ f ts is e. ap (canonically_applied f) e ∙ is)
   where
     left_settled : (t u : Term) → sample_canons (term_then t (term_then u no_terms)) ≡ term_then t (term_then u no_terms)
         → sample_canon t ≡ t
@@ -65,7 +66,7 @@ mutual
       → sample_canon (substituted values t) ≡ sample_canon (substituted (canons_of values) (sample_canon t))
   substitutes values (variable n s) = sym (settled (values n s))
   substitutes values (node f ts) =
-      ap (applied f) (all_substitute values ts) ∙ sym (canon_applied (canons_of values) f (sample_canons ts))
+      ap (canonically_applied f) (all_substitute values ts) ∙ sym (canon_applied (canons_of values) f (sample_canons ts))
 
   all_substitute : (values : Substitution) (ts : Terms)
       → sample_canons (all_substituted values ts) ≡ sample_canons (all_substituted (canons_of values) (sample_canons ts))
@@ -73,7 +74,7 @@ mutual
   all_substitute values (term_then t ts) = cc (substitutes values t, all_substitute values ts)
 
 -- the variables of the canon
-occurring_applied : (n s f : ℕ) (ts : Terms) → Occurs n s (applied f ts) → OccursAmong n s ts
+occurring_applied : (n s f : ℕ) (ts : Terms) → Occurs n s (canonically_applied f ts) → OccursAmong n s ts
 occurring_applied n s =
     applied_cases (λ f ts t. Occurs n s t → OccursAmong n s ts) (occurring_less n s) (occurring_sum n s) (λ f ts is o. o)
 
@@ -89,7 +90,7 @@ mutual
 
 -- an operation may be applied before or after a renaming
 renamed_applied : (number : ℕ → ℕ → ℕ) (f : ℕ) (ts : Terms)
-    → applied f (all_substituted (renaming number) ts) ≡ substituted (renaming number) (applied f ts)
+    → canonically_applied f (all_substituted (renaming number) ts) ≡ substituted (renaming number) (canonically_applied f ts)
 renamed_applied number (suc (suc (suc zero))) (term_then t (term_then u no_terms)) = renamed_less number t u
 renamed_applied number (suc (suc (suc (suc zero)))) (term_then t (term_then u no_terms)) = renamed_sum number t u
 renamed_applied number f ts = refl
@@ -98,7 +99,7 @@ mutual
   renames : (number : ℕ → ℕ → ℕ) (t : Term)
       → sample_canon (substituted (renaming number) t) ≡ substituted (renaming number) (sample_canon t)
   renames number (variable n s) = refl
-  renames number (node f ts) = ap (applied f) (all_rename number ts) ∙ renamed_applied number f (sample_canons ts)
+  renames number (node f ts) = ap (canonically_applied f) (all_rename number ts) ∙ renamed_applied number f (sample_canons ts)
 
   all_rename : (number : ℕ → ℕ → ℕ) (ts : Terms)
       → sample_canons (all_substituted (renaming number) ts) ≡ all_substituted (renaming number) (sample_canons ts)
@@ -106,7 +107,7 @@ mutual
   all_rename number (term_then t ts) = cc (renames number t, all_rename number ts)
 
 -- the sort of the canon
-sorted_applied : (s f : ℕ) (ts : Terms) → HasSort sample_signature (node f ts) s → HasSort sample_signature (applied f ts) s
+sorted_applied : (s f : ℕ) (ts : Terms) → HasSort sample_signature (node f ts) s → HasSort sample_signature (canonically_applied f ts) s
 sorted_applied s =
     applied_cases (λ f ts t. HasSort sample_signature (node f ts) s → HasSort sample_signature t s)
     (λ t u h. sorted_less t u s h) (λ t u h. sorted_sum t u s h) (λ f ts is h. h)
@@ -144,7 +145,7 @@ number_instances values t u h g = (
 -- each ground instance of the canon equals that of the term
 instance_applied : (values : Substitution) (s f : ℕ) (ts : Terms) → HasSort sample_signature (node f ts) s
     → GroundsAmong values ts
-    → Equal sample_data (substituted values (applied f ts)) (substituted values (node f ts))
+    → Equal sample_data (substituted values (canonically_applied f ts)) (substituted values (node f ts))
 instance_applied values s = applied_cases
     (λ f ts t. HasSort sample_signature (node f ts) s → GroundsAmong values ts
     → Equal sample_data (substituted values t) (substituted values (node f ts)))
@@ -196,7 +197,7 @@ canon_inside (j ∷ path) t u (node f ts) before after e h k =
     canon_inside path t u first.argument first.after second.after e first.inside
     (subst (λ (a : Term). put_at path u a ≡ Some second.after) one second.inside) in
     ap sample_canon (sym first.is_whole)
-    ∙ ap (applied f) (canons_with_argument j first.after second.after ts inside)
+    ∙ ap (canonically_applied f) (canons_with_argument j first.after second.after ts inside)
     ∙ ap sample_canon second.is_whole
 
 -- the two sides of each equation have one canon

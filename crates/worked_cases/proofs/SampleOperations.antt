@@ -10,12 +10,13 @@ use Rattle.lotos_base.specs.Equation.{Equation}
 use Rattle.lotos_base.specs.Equality.{Equal, same_term}
 use Rattle.lotos_base.proofs.ExampleHelpers.{Grounds, grounding}
 use Rattle.lotos_base.proofs.EqualityLemmas.{equal_then, equal_back, equal_under, equal_instance}
-use Rattle.worked_cases.specs.BehaviourSamples.{operation_of, sample_signature, sample_data, nought, succ, truth, falsehood, less, plus, sum_with_nought, sum_with_succ, below_nought, nought_below_succ, succ_below_succ, sum_of, is_less, sample_canon}
+use Rattle.lotos_base.specs.SmallData.{nought}
+use Rattle.worked_cases.specs.BehaviourSamples.{sample_operation_of, sample_signature, sample_data, succ, truth, falsehood, less, sample_plus, sum_with_nought, sum_with_succ, below_nought, nought_below_succ, succ_below_succ, sum_of, is_less, sample_canon}
 
 -- Induction on a sum: its left side, a successor, or the operation on the arguments.
 sum_cases : (P : Term → Term → Type 0) → (t : Term) → P nought t
     → ((u : Term) → P u (sum_of t u) → P (succ u) (succ (sum_of t u)))
-    → ((u : Term) → sum_of t u ≡ plus t u → P u (plus t u))
+    → ((u : Term) → sum_of t u ≡ sample_plus t u → P u (sample_plus t u))
     → (u : Term) → P u (sum_of t u)
 sum_cases P t none next stays (node zero no_terms) = none
 sum_cases P t none next stays (node (suc zero) (term_then u no_terms)) = next u (sum_cases P t none next stays u)
@@ -35,9 +36,9 @@ less_cases P never always next stays t u = stays t u refl
 
 -- the canon of an instance may add and compare before or after
 pub canon_sum : (values : Substitution) (t u : Term)
-    → sample_canon (substituted values (sum_of t u)) ≡ sample_canon (substituted values (plus t u))
+    → sample_canon (substituted values (sum_of t u)) ≡ sample_canon (substituted values (sample_plus t u))
 canon_sum values t =
-    sum_cases (λ u sum. sample_canon (substituted values sum) ≡ sample_canon (substituted values (plus t u))) t refl
+    sum_cases (λ u sum. sample_canon (substituted values sum) ≡ sample_canon (substituted values (sample_plus t u))) t refl
     (λ u e. ap succ e) (λ u is. refl)
 
 pub canon_less : (values : Substitution) (t u : Term)
@@ -71,13 +72,13 @@ occurs_below n s t (inl o) = o
 occurs_below n s t (inr o) = absurd o
 
 -- the variables of a sum and of a comparison are among those of the arguments
-pub occurring_sum : (n s : ℕ) (t u : Term) → Occurs n s (sum_of t u) → Occurs n s (plus t u)
+pub occurring_sum : (n s : ℕ) (t u : Term) → Occurs n s (sum_of t u) → Occurs n s (sample_plus t u)
 occurring_sum n s t =
-    sum_cases (λ u sum. Occurs n s sum → Occurs n s (plus t u)) t (λ o. inl o)
+    sum_cases (λ u sum. Occurs n s sum → Occurs n s (sample_plus t u)) t (λ o. inl o)
     (λ u occurring o. below u (occurring (occurs_below n s (sum_of t u) o)))
     (λ u is o. o)
   where
-    below : (u : Term) → Occurs n s (plus t u) → Occurs n s (plus t (succ u))
+    below : (u : Term) → Occurs n s (sample_plus t u) → Occurs n s (sample_plus t (succ u))
     below u (inl o) = inl o
     below u (inr o) = inr (inl o)
 
@@ -116,13 +117,13 @@ abbrev IsNat : Term → Type 0
 IsNat t = HasSort sample_signature t 1
 
 abbrev succ_operation : Operation
-succ_operation = operation_of (codes "Succ") prefix_form (1 ∷ []) 1
+succ_operation = sample_operation_of (codes "Succ") prefix_form (1 ∷ []) 1
 
 abbrev less_operation : Operation
-less_operation = operation_of (codes "lt") infix_form (1 ∷ 1 ∷ []) 0
+less_operation = sample_operation_of (codes "lt") infix_form (1 ∷ 1 ∷ []) 0
 
 abbrev plus_operation : Operation
-plus_operation = operation_of (codes "+") infix_form (1 ∷ 1 ∷ []) 1
+plus_operation = sample_operation_of (codes "+") infix_form (1 ∷ 1 ∷ []) 1
 
 -- a term has the sort Nat exactly where its successor has it
 succ_sorted : (t : Term) → IsNat t → IsNat (succ t)
@@ -142,13 +143,13 @@ sum_sorted t u h k =
 less_sorted : (t u : Term) → IsNat t → IsNat u → HasSort sample_signature (is_less t u) 0
 less_sorted =
     less_cases (λ t u order. IsNat t → IsNat u → HasSort sample_signature order 0)
-    (λ t h k. (operation_of (codes "false") prefix_form [] 0, refl, refl, tt))
-    (λ u h k. (operation_of (codes "true") prefix_form [] 0, refl, refl, tt))
+    (λ t h k. (sample_operation_of (codes "false") prefix_form [] 0, refl, refl, tt))
+    (λ u h k. (sample_operation_of (codes "true") prefix_form [] 0, refl, refl, tt))
     (λ t u sorted h k. sorted (below_succ_sorted t h) (below_succ_sorted u k))
     (λ t u is h k. (less_operation, refl, refl, (h, (k, tt))))
 
 -- the arguments of a sum and of a comparison have the sort Nat
-pub plus_arguments : (t u : Term) (s : ℕ) → HasSort sample_signature (plus t u) s
+pub plus_arguments : (t u : Term) (s : ℕ) → HasSort sample_signature (sample_plus t u) s
     → HaveSorts sample_signature (term_then t (term_then u no_terms)) (1 ∷ 1 ∷ []) × (1 ≡ s)
 plus_arguments t u s h = arguments_sorted 4 plus_operation (term_then t (term_then u no_terms)) s refl h
 
@@ -156,7 +157,7 @@ pub less_arguments : (t u : Term) (s : ℕ) → HasSort sample_signature (less t
     → HaveSorts sample_signature (term_then t (term_then u no_terms)) (1 ∷ 1 ∷ []) × (0 ≡ s)
 less_arguments t u s h = arguments_sorted 3 less_operation (term_then t (term_then u no_terms)) s refl h
 
-pub sorted_sum : (t u : Term) (s : ℕ) → HasSort sample_signature (plus t u) s → HasSort sample_signature (sum_of t u) s
+pub sorted_sum : (t u : Term) (s : ℕ) → HasSort sample_signature (sample_plus t u) s → HasSort sample_signature (sum_of t u) s
 sorted_sum t u s h =
     let below = plus_arguments t u s h in
     subst (λ (r : ℕ). HasSort sample_signature (sum_of t u) r) below.1 (sum_sorted t u below.0.0 below.0.1.0)
@@ -184,10 +185,10 @@ equation_holds number equation values is left right = equal_instance sample_data
   right = grounding sample_signature values equation.right right;
 })
 
-sum_with_nought_holds : (t : Term) → IsNumber t → Equal sample_data (plus t nought) t
+sum_with_nought_holds : (t : Term) → IsNumber t → Equal sample_data (sample_plus t nought) t
 sum_with_nought_holds t h = equation_holds 0 sum_with_nought (binding ((0, t) ∷ [])) refl (h, (tt, tt)) h
 
-sum_with_succ_holds : (t u : Term) → IsNumber t → IsNumber u → Equal sample_data (plus t (succ u)) (succ (plus t u))
+sum_with_succ_holds : (t u : Term) → IsNumber t → IsNumber u → Equal sample_data (sample_plus t (succ u)) (succ (sample_plus t u))
 sum_with_succ_holds t u h k = equation_holds 1 sum_with_succ (binding ((0, t) ∷ (1, u) ∷ [])) refl (h, ((k, tt), tt)) ((h, (k, tt)), tt)
 
 below_nought_holds : (t : Term) → IsNumber t → Equal sample_data (less t nought) falsehood
@@ -201,19 +202,20 @@ succ_below_succ_holds t u h k = equation_holds 4 succ_below_succ (binding ((0, t
 
 -- each ground instance of a sum, and of a comparison, equals the operation on the instances of the arguments
 pub instance_sum : (values : Substitution) (t u : Term) → IsNumber (substituted values t) → IsNumber (substituted values u)
-    → Equal sample_data (substituted values (sum_of t u)) (substituted values (plus t u))
+    → Equal sample_data (substituted values (sum_of t u)) (substituted values (sample_plus t u))
 instance_sum values t u h k =
     sum_cases
-    (λ u sum. IsNumber (substituted values u) → Equal sample_data (substituted values sum) (substituted values (plus t u)))
+    (λ u sum. IsNumber (substituted values u) → Equal sample_data (substituted values sum) (substituted values (sample_plus t u)))
     t
     (λ k. equal_back (sum_with_nought_holds (substituted values t) h))
     (λ u equal k.
     let number = below_succ (substituted values u) k in
     equal_then
-    (equal_under sample_data 1 (term_then (substituted values (sum_of t u)) no_terms) (term_then (substituted values (plus t u)) no_terms)
+    (equal_under sample_data 1 (term_then (substituted values (sum_of t u)) no_terms)
+    (term_then (substituted values (sample_plus t u)) no_terms)
     (equal number, tt))
     (equal_back (sum_with_succ_holds (substituted values t) (substituted values u) h number)))
-    (λ u is k. same_term (substituted values (plus t u)))
+    (λ u is k. same_term (substituted values (sample_plus t u)))
     u k
 
 pub instance_less : (values : Substitution) (t u : Term) → IsNumber (substituted values t) → IsNumber (substituted values u)

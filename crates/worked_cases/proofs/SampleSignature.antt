@@ -2,7 +2,8 @@
 use Rattle.std.proofs.Common.{◌≡◌, ℕ, List, [], ◌∷◌, refl, arith}
 use Rattle.std.specs.Prelude.{Some, slice_get}
 use Rattle.lotos_base.specs.Signature.{Sort, Operation, IsSort, IsWellFormedSignature}
-use Rattle.lotos_base.proofs.ExampleHelpers.{each_member, one_named}
+use Rattle.lotos_base.proofs.ExampleHelpers.{one_named}
+use Rattle.lotos_base.proofs.Each.{each_member}
 use Rattle.worked_cases.specs.BehaviourSamples.{sample_signature}
 
 bool_in : IsSort sample_signature 0

@@ -5,7 +5,7 @@ use Rattle.std.specs.Cmp.{first_so, second_so}
 use Rattle.std.proofs.lemmas.Bool.{ltb-true}
 use Rattle.lotos_base.specs.Signature.{Signature, Operation, IsOperation}
 use Rattle.lotos_base.specs.Term.{Term, variable, node, Terms, no_terms, term_then}
-use Rattle.lotos_base.specs.Sorting.{sort_of, HasSort, HaveSorts, IsGroundOf, Occurs, OccursAmong}
+use Rattle.lotos_base.specs.Sorting.{head_sort_of, HasSort, HaveSorts, IsGroundOf, Occurs, OccursAmong}
 use Rattle.lotos_base.specs.Equation.{Data, Variable}
 use Rattle.lotos_base.specs.Tests.{term_eq}
 use Rattle.lotos_base.specs.Canon.{IsCanon}
@@ -13,7 +13,7 @@ use Rattle.lotos_base.proofs.SubstitutionLemmas.{no_variable_ground}
 use Rattle.lotos_base.proofs.TestLemmas.{Decides-term_eq}
 use Rattle.lotos_base.proofs.CanonLemmas.{canon_tells}
 use Rattle.behaviour_semantics.specs.Behaviour.{Test}
-use Rattle.behaviour_semantics.specs.Rule.{is_same_sort, AreValues, AllHold}
+use Rattle.behaviour_semantics.specs.Rule.{is_same_known_sort, AreValues, AllHold}
 use Rattle.behaviour_semantics.specs.WellFormed.{sort_in, IsTermIn}
 use Rattle.behaviour_semantics.proofs.ClosedTargets.{same_sort}
 
@@ -25,7 +25,7 @@ operation_passes (Some o) sort arguments_pass = nat_eq o.result sort && argument
 abbrev mutual
   pub term_passes : Signature → List Variable → ℕ → Term → Bool
   term_passes signature scope sort (variable n s) =
-      nat_eq s sort && (is_same_sort (sort_in scope n) (Some s) && nat_lt s (length signature.sorts))
+      nat_eq s sort && (is_same_known_sort (sort_in scope n) (Some s) && nat_lt s (length signature.sorts))
   term_passes signature scope sort (node f ts) = operation_passes (slice_get signature.operations f) sort (terms_pass signature scope ts)
 
   pub terms_pass : Signature → List Variable → Terms → List ℕ → Bool
@@ -55,10 +55,11 @@ module _ (signature : Signature) (scope : List Variable) where
   mutual
     sorted : (t : Term) (sort : ℕ) → term_passes signature scope sort t ≡ true → HasSort signature t sort
     sorted (variable n s) sort e =
-        let rest : (is_same_sort (sort_in scope n) (Some s) && nat_lt s (length signature.sorts)) ≡ true = second_so (nat_eq s sort) _ e in (
+        let rest : (is_same_known_sort (sort_in scope n) (Some s) && nat_lt s (length signature.sorts)) ≡ true =
+        second_so (nat_eq s sort) _ e in (
           eqb-true s sort (first_so (nat_eq s sort) _ e),
           ltb-true s (length signature.sorts)
-              (second_so (is_same_sort (sort_in scope n) (Some s)) _ rest),
+              (second_so (is_same_known_sort (sort_in scope n) (Some s)) _ rest),
         )
     sorted (node f ts) sort e =
         let p : Passed signature f sort (terms_pass signature scope ts) =
@@ -77,8 +78,10 @@ module _ (signature : Signature) (scope : List Variable) where
   mutual
     bound : (t : Term) (sort : ℕ) → term_passes signature scope sort t ≡ true → (n s : ℕ) → Occurs n s t → sort_in scope n ≡ Some s
     bound (variable m r) sort e n s o =
-        let rest : (is_same_sort (sort_in scope m) (Some r) && nat_lt r (length signature.sorts)) ≡ true = second_so (nat_eq r sort) _ e in
-        let at : sort_in scope m ≡ Some r = same_sort (sort_in scope m) r (first_so (is_same_sort (sort_in scope m) (Some r)) _ rest) in
+        let rest : (is_same_known_sort (sort_in scope m) (Some r) && nat_lt r (length signature.sorts)) ≡ true =
+        second_so (nat_eq r sort) _ e in
+        let at : sort_in scope m ≡ Some r =
+        same_sort (sort_in scope m) r (first_so (is_same_known_sort (sort_in scope m) (Some r)) _ rest) in
         subst (λ (k : ℕ). sort_in scope k ≡ Some s) o.0 (at ∙ ap (λ (k : ℕ). Some k) o.1)
     bound (node f ts) sort e n s o =
         let p : Passed signature f sort (terms_pass signature scope ts) =
@@ -121,7 +124,7 @@ values_in signature (s ∷ sorts) [] e = absurd (cc e)
 
 -- The sort that a term's head gives it, or 0.
 abbrev pub head_sort : Signature → Term → ℕ
-head_sort signature t = unwrap_or (sort_of signature t) 0
+head_sort signature t = unwrap_or (head_sort_of signature t) 0
 
 -- The equation has ground sides of one sort, whose canonical forms are identical.
 abbrev holds : Signature → (Term → Term) → Test → Bool

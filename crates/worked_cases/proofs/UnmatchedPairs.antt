@@ -11,7 +11,7 @@ use Rattle.behaviour_semantics.proofs.InstanceLemmas.{every_at}
 use Rattle.behaviour_semantics.proofs.OptionLemmas.{some_value}
 use Rattle.certificate_theory.specs.Agreement.{AreOneGate, AgreeingLabels}
 use Rattle.certificate_theory.specs.Bisimulation.{turned_round}
-use Rattle.certificate_theory.specs.Certificate.{CertificateLine, names_left, names_right, lists_pair, unmatched_left, unmatched_right, ListedPair, AreListed, ListsTheStarts, side_of}
+use Rattle.certificate_theory.specs.Certificate.{CertificateLine, names_left, names_right, lists_pair, unmatched_left, unmatched_right, ListedPair, AreListed, ListsTheStarts, compared_side_of}
 use Rattle.certificate_theory.specs.NamedStates.{numbered_entry, EntryLeads}
 use Rattle.certificate_theory.specs.MatchedPairs.{IsMatched, PairsFail, left_fails, right_fails}
 use Rattle.worked_cases.specs.BehaviourSamples.{sample_data, sample_canon}
@@ -47,7 +47,8 @@ first_in = plain_entry (left_side (called act)) (gate_event 0 [])
 
 abbrev pub StartMatch : Entry → Type 0
 StartMatch entry =
-    IsMatched (side_of sample_data sample_canon two_buffers) (side_of sample_data sample_canon two_place_buffer) (AreListed start_pairs)
+    IsMatched (compared_side_of sample_data sample_canon two_buffers) (compared_side_of sample_data sample_canon two_place_buffer)
+    (AreListed start_pairs)
     (state_of empty_buffer empty_buffer)
     (place_of_places 0) holding_none entry
 
@@ -56,10 +57,10 @@ not_by_in determined m same =
     let target : m.target ≡ state_of full_buffer empty_buffer =
     leads_to determined two_buffers (state_of empty_buffer empty_buffer) (left_side (called act)) (gate_event 0 [])
     (state_of full_buffer empty_buffer) m.target refl m.leads in
-    let led : EntryLeads (side_of sample_data sample_canon two_place_buffer) (place_of_places 0)
+    let led : EntryLeads (compared_side_of sample_data sample_canon two_place_buffer) (place_of_places 0)
     (plain_entry (called act) (gate_event 1 []))
     m.other_target =
-    subst (λ (e : Entry). EntryLeads (side_of sample_data sample_canon two_place_buffer) (place_of_places 0) e m.other_target) same
+    subst (λ (e : Entry). EntryLeads (compared_side_of sample_data sample_canon two_place_buffer) (place_of_places 0) e m.other_target) same
     m.answer_leads in
     let other : m.other_target ≡ place_of_places 1 =
     leads_to determined two_place_buffer (place_of_places 0) (called act) (gate_event 1 []) (place_of_places 1) m.other_target refl led in
@@ -105,7 +106,7 @@ stops_listed = listed_at event_pairs 1 (pair_of 4 stop stop) refl
 
 abbrev EventMatch : Entry → Type 0
 EventMatch entry =
-    IsMatched (side_of sample_data sample_canon one_and_two.right) (side_of sample_data sample_canon one_and_two.left)
+    IsMatched (compared_side_of sample_data sample_canon one_and_two.right) (compared_side_of sample_data sample_canon one_and_two.left)
     (turned_round Listed) one_and_two.right_start
     one_and_two.left_start one_event entry
 

@@ -1,6 +1,6 @@
 -- A test that a behaviour, and a specification, is closed and well formed. It computes, so that a worked case needs no
 -- proof of its own.
-use Rattle.std.proofs.Common.{◌≡◌, ◌≢◌, ◌<◌, ℕ, zero, suc, List, [], ◌∷◌, ◌++◌, length, nat_eq, nat_lt, slice_get, Bool, true, false, ◌&&◌, not, if◌then◌else◌, Option, None, Some, refl, ap, sym, subst}
+use Rattle.std.proofs.Common.{◌≡◌, ◌≢◌, ◌<◌, ℕ, zero, suc, List, [], ◌∷◌, ◌++◌, length, nat_eq, nat_lt, slice_get, Bool, true, false, ◌&&◌, not, Option, None, Some, refl, ap, sym, subst}
 use Rattle.lotos_base.specs.Signature.{Signature, IsSort}
 use Rattle.lotos_base.specs.Term.{Term}
 use Rattle.lotos_base.specs.Equation.{Variable}
@@ -28,14 +28,6 @@ every_passed test P h (x ∷ xs) e = (h x (first_so (test x) _ e), every_passed 
 abbrev distinct_pass : List ℕ → Bool
 distinct_pass [] = true
 distinct_pass (n ∷ numbers) = not (is_listed numbers n) && distinct_pass numbers
-
-same_listed : (b : Bool) (rest : Bool) → b ≡ true → (if b then true else rest) ≡ true
-same_listed true rest e = refl
-same_listed false rest e = absurd (cc e)
-
-rest_listed : (b : Bool) (rest : Bool) → rest ≡ true → (if b then true else rest) ≡ true
-rest_listed true rest e = refl
-rest_listed false rest e = e
 
 are_distinct : (numbers : List ℕ) → distinct_pass numbers ≡ true → AreDistinct numbers
 are_distinct [] e i j n at at' = absurd (cc at)

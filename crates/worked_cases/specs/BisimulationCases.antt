@@ -9,12 +9,13 @@ use Rattle.certificate_theory.specs.BisimulationLaws.{IsComparable}
 use Rattle.certificate_theory.specs.Certificate.{CertificateLine, names_left, names_right, lists_pair, accepted, Comparison}
 use Rattle.certificate_theory.specs.Checking.{CertificateComesTo}
 use Rattle.certificate_theory.specs.CertificateLaws.{AreShownBisimilar}
-use Rattle.worked_cases.specs.BehaviourSamples.{sample_signature, sample_data, sample_canon, empty_sort, nought, one, gate_g, offering, event}
+use Rattle.lotos_base.specs.SmallData.{nought}
+use Rattle.worked_cases.specs.BehaviourSamples.{sample_signature, sample_data, sample_canon, empty_sort, one, gate_g, offering, event}
 use Rattle.worked_cases.specs.ValueCases.{sum}
 
 -- A specification with these gates, of which the first two are its own, these processes and this body.
-abbrev pub specification_of : List (List ℕ) → List Process → Behaviour → Specification
-specification_of gate_names processes body = record {
+abbrev pub specification_of_cases : List (List ℕ) → List Process → Behaviour → Specification
+specification_of_cases gate_names processes body = record {
   name = codes "S";
   gate_names = gate_names;
   gates = 0 ∷ 1 ∷ [];
@@ -32,15 +33,15 @@ abbrev pub gate_y : ℕ
 gate_y = 3
 
 -- A process that binds x and y, without values.
-abbrev pub process_of : List ℕ → Behaviour → Process
-process_of name body = record { name = name; gates = gate_x ∷ gate_y ∷ []; parameters = []; exit = None; body = body }
+abbrev pub process_of_two_gates : List ℕ → Behaviour → Process
+process_of_two_gates name body = record { name = name; gates = gate_x ∷ gate_y ∷ []; parameters = []; exit = None; body = body }
 
 abbrev pub calling : ℕ → ℕ → ℕ → Behaviour
 calling process first second = call process (first ∷ second ∷ []) []
 
 -- `process B[x, y] := x; y; B[x, y]`, called with the gates 0 and 1: an empty buffer, and one that is full
 abbrev pub one_place : List Process
-one_place = process_of (codes "B") (event gate_x (event gate_y (calling 0 gate_x gate_y))) ∷ []
+one_place = process_of_two_gates (codes "B") (event gate_x (event gate_y (calling 0 gate_x gate_y))) ∷ []
 
 abbrev pub empty_buffer : Behaviour
 empty_buffer = calling 0 0 1
@@ -54,15 +55,15 @@ side_by_side_with b c = parallel no_gates b c
 
 abbrev pub two_buffers : Specification
 two_buffers =
-    specification_of (codes "in" ∷ codes "out" ∷ codes "x" ∷ codes "y" ∷ []) one_place (side_by_side_with empty_buffer empty_buffer)
+    specification_of_cases (codes "in" ∷ codes "out" ∷ codes "x" ∷ codes "y" ∷ []) one_place (side_by_side_with empty_buffer empty_buffer)
 
 -- `process Empty[x, y] := x; Half[x, y]`, `process Half[x, y] := x; Full[x, y] [] y; Empty[x, y]` and
 -- `process Full[x, y] := y; Half[x, y]`, called with the gates 1 and 0
 abbrev pub two_places : List Process
 two_places =
-    process_of (codes "Empty") (event gate_x (calling 1 gate_x gate_y))
-    ∷ process_of (codes "Half") (choice (event gate_x (calling 2 gate_x gate_y)) (event gate_y (calling 0 gate_x gate_y)))
-    ∷ process_of (codes "Full") (event gate_y (calling 1 gate_x gate_y))
+    process_of_two_gates (codes "Empty") (event gate_x (calling 1 gate_x gate_y))
+    ∷ process_of_two_gates (codes "Half") (choice (event gate_x (calling 2 gate_x gate_y)) (event gate_y (calling 0 gate_x gate_y)))
+    ∷ process_of_two_gates (codes "Full") (event gate_y (calling 1 gate_x gate_y))
     ∷ []
 
 abbrev pub place_of_places : ℕ → Behaviour
@@ -70,7 +71,7 @@ place_of_places held = calling held 1 0
 
 abbrev pub two_place_buffer : Specification
 two_place_buffer =
-    specification_of (codes "OUT" ∷ codes "In" ∷ codes "x" ∷ codes "y" ∷ []) two_places (place_of_places 0)
+    specification_of_cases (codes "OUT" ∷ codes "In" ∷ codes "x" ∷ codes "y" ∷ []) two_places (place_of_places 0)
 
 abbrev pub buffers : Comparison
 buffers = record {
@@ -96,7 +97,7 @@ pub record TwoBuffersAreATwoPlaceBuffer : Type 0 where
 
 -- `a !(Succ(0) + 0); stop` and `a !Succ(0); stop`
 abbrev pub offering_specification : Behaviour → Specification
-offering_specification b = specification_of (codes "a" ∷ codes "b" ∷ []) [] b
+offering_specification b = specification_of_cases (codes "a" ∷ codes "b" ∷ []) [] b
 
 abbrev pub sums : Comparison
 sums = record {

@@ -7,8 +7,8 @@ use Rattle.worked_cases.specs.BehaviourSamples.{sample_data, sample_canon, nat_v
 use Rattle.worked_cases.specs.BisimulationCases.{buffers, offering_specification}
 
 -- Two behaviours without processes over the sample data.
-abbrev pub compared : Behaviour → Behaviour → Comparison
-compared b c = record {
+abbrev pub sample_comparison : Behaviour → Behaviour → Comparison
+sample_comparison b c = record {
   data_ = sample_data;
   canon = sample_canon;
   left = offering_specification b;
@@ -19,11 +19,11 @@ compared b c = record {
 
 -- `a ?x:Nat; stop` on both sides
 abbrev pub asking_both : Comparison
-asking_both = compared (offering 0 (ask (nat_variable 0) ∷ []) stop) (offering 0 (ask (nat_variable 0) ∷ []) stop)
+asking_both = sample_comparison (offering 0 (ask (nat_variable 0) ∷ []) stop) (offering 0 (ask (nat_variable 0) ∷ []) stop)
 
 -- `a; stop` and `a; stop [] b; stop`
 abbrev pub one_and_two : Comparison
-one_and_two = compared (event 0 stop) (choice (event 0 stop) (event 1 stop))
+one_and_two = sample_comparison (event 0 stop) (choice (event 0 stop) (event 1 stop))
 
 -- Each fault, with its line and, of a pair, the first entry that is not matched.
 pub record FaultsAreNamed : Type 0 where

@@ -8,9 +8,10 @@ use Rattle.behaviour_semantics.specs.Alike.{AlikeLabels}
 use Rattle.behaviour_semantics.specs.Solving.{Entry}
 use Rattle.behaviour_semantics.specs.Menu.{EqualLabels, HasEntry}
 use Rattle.behaviour_semantics.specs.Run.{Reaches}
-use Rattle.worked_cases.specs.BehaviourSamples.{nought, one, nat, nat_variable, gate_a, gate_b, event, sample_data, sample_canon}
+use Rattle.lotos_base.specs.SmallData.{nought}
+use Rattle.worked_cases.specs.BehaviourSamples.{one, nat, nat_variable, gate_a, gate_b, event, sample_data, sample_canon}
 use Rattle.worked_cases.specs.Showing.{entry}
-use Rattle.worked_cases.specs.ValueCases.{sum, giving}
+use Rattle.worked_cases.specs.ValueCases.{sum, giving_value}
 
 -- Labels are equal, and alike, where kind, gate and number of values agree and the values are equal.
 pub record LabelsAreCompared : Type 0 where
@@ -39,11 +40,11 @@ abbrev pub two_events : Behaviour
 two_events = event gate_a (event gate_b stop)
 
 abbrev pub giving_after_an_inner_event : Behaviour
-giving_after_an_inner_event = let_be ((nat_variable 0, sum) ∷ []) (inner_action (giving (nat 0)))
+giving_after_an_inner_event = let_be ((nat_variable 0, sum) ∷ []) (inner_action (giving_value (nat 0)))
 
 -- A run goes from behaviour to behaviour, with values in the form that is asked for; without a derivation it stays.
 pub record RunsGoOn : Type 0 where
   pub two_moves : Reaches sample_data as_given [] two_events (by act ∷ by act ∷ []) stop
-  pub kept : Reaches sample_data sample_canon [] giving_after_an_inner_event (by (let_bound inner_step) ∷ []) (giving one)
-  pub given : Reaches sample_data as_given [] giving_after_an_inner_event (by (let_bound inner_step) ∷ []) (giving sum)
+  pub kept : Reaches sample_data sample_canon [] giving_after_an_inner_event (by (let_bound inner_step) ∷ []) (giving_value one)
+  pub given : Reaches sample_data as_given [] giving_after_an_inner_event (by (let_bound inner_step) ∷ []) (giving_value sum)
   pub not_elsewhere : Reaches sample_data as_given [] stop [] (inner_action stop) → ⊥

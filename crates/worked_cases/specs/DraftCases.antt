@@ -7,8 +7,9 @@ use Rattle.behaviour_semantics.specs.Shape.{act, both_sides}
 use Rattle.behaviour_semantics.specs.Draft.{Draft}
 use Rattle.behaviour_semantics.specs.Solving.{Entry, SolvesTo}
 use Rattle.behaviour_semantics.specs.DraftOrder.{IsInOrder, values_from, LeavesMeet}
-use Rattle.behaviour_semantics.specs.Join.{joined}
-use Rattle.worked_cases.specs.BehaviourSamples.{bool_sort, nat_sort, nought, one, two, succ, nat, gate_g, gate_a, sample_signature, sample_data, sample_canon, test_of}
+use Rattle.behaviour_semantics.specs.Join.{join_of_drafts}
+use Rattle.lotos_base.specs.SmallData.{nought}
+use Rattle.worked_cases.specs.BehaviourSamples.{sample_bool_sort, nat_sort, one, two, succ, nat, gate_g, gate_a, sample_signature, sample_data, sample_canon, sample_test}
 use Rattle.worked_cases.specs.Showing.{draft, entry}
 
 -- `g !Succ($1)` with the leaves Succ($1) and $1: what is left of two leaves of which the first is one more than the second
@@ -31,7 +32,7 @@ pub record LeavesTellTheValues : Type 0 where
   -- a variable that is no leaf, one whose number is too high, and one number with two sorts
   pub no_leaf : ¬ IsInOrder sample_signature (with_leaves (succ (nat 0) ∷ []))
   pub too_high : ¬ IsInOrder sample_signature (with_leaves (nat 2 ∷ nat 2 ∷ []))
-  pub two_sorts : ¬ IsInOrder sample_signature (with_leaves (variable 0 nat_sort ∷ variable 0 bool_sort ∷ []))
+  pub two_sorts : ¬ IsInOrder sample_signature (with_leaves (variable 0 nat_sort ∷ variable 0 sample_bool_sort ∷ []))
 
 -- Variables are numbered in the order of their numbers and not of their leaves.
 pub record NumbersKeepTheirOrder : Type 0 where
@@ -48,7 +49,7 @@ abbrev pub both_joined : Draft
 both_joined =
     draft (both_sides act act) (gate_event gate_g (succ (nat 0) ∷ []))
     (succ (nat 0) ∷ nat 0 ∷ nat 2 ∷ [])
-    (test_of (succ (nat 0)) (nat 2) ∷ [])
+    (sample_test (succ (nat 0)) (nat 2) ∷ [])
 
 abbrev pub both_solved : Entry
 both_solved =
@@ -58,9 +59,9 @@ both_solved =
 
 -- The join of both: leaves of the left before those of the right, whose numbers are raised by two, and one equation.
 pub record SidesAreJoined : Type 0 where
-  pub join : joined sample_signature one_more any_number ≡ Some both_joined
+  pub join : join_of_drafts sample_signature one_more any_number ≡ Some both_joined
   pub solved : SolvesTo sample_canon both_joined (Some both_solved)
   -- other gates, and a label without values, have no join
-  pub other_gate : joined sample_signature one_more (draft act (gate_event gate_a (nat 0 ∷ [])) (nat 0 ∷ []) []) ≡ None
-  pub no_value : joined sample_signature one_more (with_leaves []) ≡ None
-  pub inner : joined sample_signature (draft act inner_event [] []) (draft act inner_event [] []) ≡ None
+  pub other_gate : join_of_drafts sample_signature one_more (draft act (gate_event gate_a (nat 0 ∷ [])) (nat 0 ∷ []) []) ≡ None
+  pub no_value : join_of_drafts sample_signature one_more (with_leaves []) ≡ None
+  pub inner : join_of_drafts sample_signature (draft act inner_event [] []) (draft act inner_event [] []) ≡ None

@@ -3,7 +3,8 @@ use Rattle.std.specs.Prelude.{[], ◌∷◌, codes, None}
 use Rattle.behaviour_semantics.specs.Behaviour.{Behaviour, stop, exit_with, parallel, hide, enable, disable, choose_gate, par_gate, call, relabel, give, ask, exit_value, any_of, no_gates, all_gates, at_gates, Process}
 use Rattle.behaviour_semantics.specs.Label.{inner_event, gate_event, exit_event}
 use Rattle.behaviour_semantics.specs.Shape.{act, quit, left_side, right_side, both_sides, hidden, enabled, at_gate, called, relabelled}
-use Rattle.worked_cases.specs.BehaviourSamples.{nat_sort, nought, one, nat, nat_variable, gate_a, gate_b, gate_g, gate_h, gate_x, gate_y, gate_z, offering, event, test_of}
+use Rattle.lotos_base.specs.SmallData.{nought}
+use Rattle.worked_cases.specs.BehaviourSamples.{nat_sort, one, nat, nat_variable, gate_a, gate_b, gate_g, gate_h, gate_x, gate_y, gate_z, offering, event, sample_test}
 use Rattle.worked_cases.specs.Showing.{HasMenu, Steps, gives, as_it_is, event_line, draft, entry}
 
 -- `process P[x, y] := x; stop |[x]| y; y; stop`, and its call `P[a, a]`
@@ -59,8 +60,8 @@ pub record ATargetStaysRelabelled : Type 0 where
 abbrev pub both_ending : Behaviour
 both_ending = parallel no_gates (exit_with (exit_value nought ∷ any_of nat_sort ∷ [])) (exit_with (any_of nat_sort ∷ exit_value one ∷ []))
 
-abbrev pub passing_on : Behaviour
-passing_on = enable both_ending (nat_variable 0 ∷ nat_variable 1 ∷ []) (offering gate_g (give (nat 0) ∷ give (nat 1) ∷ []) stop)
+abbrev pub passing_on_values : Behaviour
+passing_on_values = enable both_ending (nat_variable 0 ∷ nat_variable 1 ∷ []) (offering gate_g (give (nat 0) ∷ give (nat 1) ∷ []) stop)
 
 abbrev pub passed_on : Behaviour
 passed_on = offering gate_g (give nought ∷ give one ∷ []) stop
@@ -69,16 +70,17 @@ passed_on = offering gate_g (give nought ∷ give one ∷ []) stop
 pub record BothSidesEndTogether : Type 0 where
   pub sides : HasMenu [] both_ending (
       gives (draft (both_sides quit quit) (exit_event (nought ∷ nat 0 ∷ [])) (nat 0 ∷ nat 1 ∷ [])
-      (test_of nought (nat 1) ∷ test_of (nat 0) one ∷ []))
+      (sample_test nought (nat 1) ∷ sample_test (nat 0) one ∷ []))
       (entry (both_sides quit quit) (exit_event (nought ∷ one ∷ [])) [] (one ∷ nought ∷ []) [])
       ∷ []
       )
-  pub menu : HasMenu [] passing_on (
-      gives (draft (enabled (both_sides quit quit)) inner_event (nat 0 ∷ nat 1 ∷ []) (test_of nought (nat 1) ∷ test_of (nat 0) one ∷ []))
+  pub menu : HasMenu [] passing_on_values (
+      gives (draft (enabled (both_sides quit quit)) inner_event (nat 0 ∷ nat 1 ∷ [])
+      (sample_test nought (nat 1) ∷ sample_test (nat 0) one ∷ []))
       (entry (enabled (both_sides quit quit)) inner_event [] (one ∷ nought ∷ []) [])
       ∷ []
       )
-  pub step : Steps [] passing_on (enabled (both_sides quit quit)) (one ∷ nought ∷ []) inner_event passed_on
+  pub step : Steps [] passing_on_values (enabled (both_sides quit quit)) (one ∷ nought ∷ []) inner_event passed_on
   pub next : HasMenu [] passed_on (event_line act (gate_event gate_g (nought ∷ one ∷ [])) ∷ [])
 
 -- `a; exit [> b; stop`, and what it becomes after `a`

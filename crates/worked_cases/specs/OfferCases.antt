@@ -8,7 +8,8 @@ use Rattle.behaviour_semantics.specs.Draft.{Draft}
 use Rattle.behaviour_semantics.specs.Menu.{Meets}
 use Rattle.behaviour_semantics.specs.Solving.{Entry, SolvesTo}
 use Rattle.behaviour_semantics.specs.Transition.{Transition}
-use Rattle.worked_cases.specs.BehaviourSamples.{nat_sort, empty_sort, nought, succ, one, two, truth, less, plus, nat, nat_variable, gate_g, gate_h, offering, test_of, sample_data, sample_canon}
+use Rattle.lotos_base.specs.SmallData.{nought}
+use Rattle.worked_cases.specs.BehaviourSamples.{nat_sort, empty_sort, succ, one, two, truth, less, sample_plus, nat, nat_variable, gate_g, gate_h, offering, sample_test, sample_data, sample_canon}
 use Rattle.worked_cases.specs.Showing.{FittingShape, HasMenu, Steps, gives, gives_nothing, as_it_is, event_line, sample_move, draft, entry, move}
 
 -- `g !0; stop [] (g ?x:Nat; stop [] g !0; stop)`
@@ -29,18 +30,20 @@ pub record EqualLabelsAreTwoEntries : Type 0 where
 
 -- `g ?x:Nat [x lt Succ(Succ(0))]; h !x; stop`, and what it becomes with 1
 abbrev pub below_two : Behaviour
-below_two = action gate_g (ask (nat_variable 0) ∷ []) (Some (test_of (less (nat 0) two) truth)) (offering gate_h (give (nat 0) ∷ []) stop)
+below_two =
+    action gate_g (ask (nat_variable 0) ∷ []) (Some (sample_test (less (nat 0) two) truth)) (offering gate_h (give (nat 0) ∷ []) stop)
 
 abbrev pub with_one : Behaviour
 with_one = offering gate_h (give one ∷ []) stop
 
 abbrev pub below_two_entry : Entry
-below_two_entry = entry act (gate_event gate_g (nat 0 ∷ [])) (nat_sort ∷ []) (nat 0 ∷ []) (test_of (less (nat 0) two) truth ∷ [])
+below_two_entry = entry act (gate_event gate_g (nat 0 ∷ [])) (nat_sort ∷ []) (nat 0 ∷ []) (sample_test (less (nat 0) two) truth ∷ [])
 
 -- A selection predicate is kept as a condition, which 1 meets and 2 does not, and is asked of the chosen value, which
 -- the rest then has.
 pub record APredicateIsKept : Type 0 where
-  pub menu : HasMenu [] below_two (gives (draft act (gate_event gate_g (nat 0 ∷ [])) (nat 0 ∷ []) (test_of (less (nat 0) two) truth ∷ []))
+  pub menu : HasMenu [] below_two
+      (gives (draft act (gate_event gate_g (nat 0 ∷ [])) (nat 0 ∷ []) (sample_test (less (nat 0) two) truth ∷ []))
       below_two_entry ∷ [])
   pub one_meets : Meets sample_data below_two_entry (one ∷ [])
   pub two_does_not : Meets sample_data below_two_entry (two ∷ []) → ⊥
@@ -51,12 +54,12 @@ pub record APredicateIsKept : Type 0 where
 -- `g ?x:Nat; stop |[g]| g !Succ(0) + 0; stop`
 abbrev pub matched : Behaviour
 matched = parallel (at_gates (gate_g ∷ [])) (offering gate_g (ask (nat_variable 0) ∷ []) stop)
-    (offering gate_g (give (plus one nought) ∷ []) stop)
+    (offering gate_g (give (sample_plus one nought) ∷ []) stop)
 
 -- A match gives the variable its value, in canonical form. Neither side moves alone.
 pub record AMatchGivesTheValue : Type 0 where
   pub menu : HasMenu [] matched (
-      gives (draft (both_sides act act) (gate_event gate_g (nat 0 ∷ [])) (nat 0 ∷ []) (test_of (nat 0) one ∷ []))
+      gives (draft (both_sides act act) (gate_event gate_g (nat 0 ∷ [])) (nat 0 ∷ []) (sample_test (nat 0) one ∷ []))
       (entry (both_sides act act) (gate_event gate_g (one ∷ [])) [] (one ∷ []) [])
       ∷ []
       )
@@ -66,13 +69,13 @@ pub record AMatchGivesTheValue : Type 0 where
 abbrev pub mismatched : Behaviour
 mismatched =
     parallel (at_gates (gate_g ∷ []))
-    (action gate_g (ask (nat_variable 0) ∷ []) (Some (test_of (nat 0) nought)) stop)
-    (offering gate_g (give (plus one nought) ∷ []) stop)
+    (action gate_g (ask (nat_variable 0) ∷ []) (Some (sample_test (nat 0) nought)) stop)
+    (offering gate_g (give (sample_plus one nought) ∷ []) stop)
 
 abbrev pub mismatched_lines : List FittingShape
 mismatched_lines =
     gives_nothing (draft (both_sides act act) (gate_event gate_g (nat 0 ∷ [])) (nat 0 ∷ [])
-    (test_of (nat 0) nought ∷ test_of (nat 0) one ∷ []))
+    (sample_test (nat 0) nought ∷ sample_test (nat 0) one ∷ []))
     ∷ []
 
 -- A selection predicate is still asked after a match has given its variable a value. Here nothing meets both.
@@ -81,7 +84,7 @@ pub record APredicateOutlivesAMatch : Type 0 where
   pub asked :
       sample_move [] mismatched (both_sides act act) (one ∷ [])
       ≡ move (gate_event gate_g (one ∷ [])) (parallel (at_gates (gate_g ∷ [])) stop stop)
-      (test_of one nought ∷ test_of one (plus one nought) ∷ []) (nat_sort ∷ [])
+      (sample_test one nought ∷ sample_test one (sample_plus one nought) ∷ []) (nat_sort ∷ [])
   pub no_transition : (label : Label) (target : Behaviour) → Transition sample_data [] mismatched label target → ⊥
 
 -- `choice x:E [] g !x; stop` over a sort without terms
@@ -115,13 +118,13 @@ abbrev pub chasing_entry : Entry
 chasing_entry =
     entry (both_sides (with_value act) (with_value act)) (gate_event gate_g (succ (nat 0) ∷ succ (succ (nat 0)) ∷ [])) (nat_sort ∷ [])
     (succ (nat 0) ∷ nat 0 ∷ [])
-    (test_of (succ (succ (nat 0))) (nat 0) ∷ [])
+    (sample_test (succ (succ (nat 0))) (nat 0) ∷ [])
 
 abbrev pub chasing_lines : List FittingShape
 chasing_lines =
     gives
     (draft (both_sides (with_value act) (with_value act)) (gate_event gate_g (nat 0 ∷ succ (nat 0) ∷ [])) (nat 0 ∷ nat 1 ∷ [])
-    (test_of (nat 0) (succ (nat 1)) ∷ test_of (succ (nat 0)) (nat 1) ∷ []))
+    (sample_test (nat 0) (succ (nat 1)) ∷ sample_test (succ (nat 0)) (nat 1) ∷ []))
     chasing_entry
     ∷ []
 
@@ -130,7 +133,7 @@ abbrev pub solved_before : Draft
 solved_before =
     draft (both_sides (with_value act) (with_value act)) (gate_event gate_g (succ (nat 0) ∷ succ (succ (nat 0)) ∷ []))
     (succ (nat 0) ∷ nat 0 ∷ [])
-    (test_of (succ (succ (nat 0))) (nat 0) ∷ [])
+    (sample_test (succ (succ (nat 0))) (nat 0) ∷ [])
 
 -- A condition that nobody meets is kept where it is not closed. Solving what is solved changes nothing.
 pub record AnUnsolvableConditionIsKept : Type 0 where
@@ -139,7 +142,8 @@ pub record AnUnsolvableConditionIsKept : Type 0 where
   pub no_instance : (values : List Term) → Meets sample_data chasing_entry values → ⊥
   pub asked :
       sample_move [] chasing (both_sides (with_value act) (with_value act)) (one ∷ nought ∷ [])
-      ≡ move (gate_event gate_g (one ∷ two ∷ [])) (parallel (at_gates (gate_g ∷ [])) stop stop) (test_of one one ∷ test_of two nought ∷ [])
+      ≡ move (gate_event gate_g (one ∷ two ∷ [])) (parallel (at_gates (gate_g ∷ [])) stop stop)
+      (sample_test one one ∷ sample_test two nought ∷ [])
       (nat_sort ∷ nat_sort ∷ [])
   pub no_transition : (label : Label) (target : Behaviour) → Transition sample_data [] chasing label target → ⊥
 
@@ -158,20 +162,20 @@ pub record TheEarlierVariableStays : Type 0 where
   pub menu : HasMenu [] two_bare (
       gives
       (draft two_bare_shape (gate_event gate_g (nat 0 ∷ succ (nat 1) ∷ [])) (nat 0 ∷ nat 1 ∷ nat 2 ∷ nat 3 ∷ [])
-      (test_of (nat 0) (nat 2) ∷ test_of (succ (nat 1)) (succ (nat 3)) ∷ []))
+      (sample_test (nat 0) (nat 2) ∷ sample_test (succ (nat 1)) (succ (nat 3)) ∷ []))
       (entry two_bare_shape (gate_event gate_g (nat 0 ∷ succ (nat 1) ∷ [])) (nat_sort ∷ nat_sort ∷ nat_sort ∷ [])
       (nat 0 ∷ nat 1 ∷ nat 0 ∷ nat 2 ∷ [])
-      (test_of (succ (nat 1)) (succ (nat 2)) ∷ []))
+      (sample_test (succ (nat 1)) (succ (nat 2)) ∷ []))
       ∷ []
       )
 
 -- `let x:Nat = Succ(0) in g !x + x; stop`; `choice y:Nat [] [y = 0] -> g !y; stop`; `let x:Nat = Succ(0) in g ?x:Nat !x; h !x; stop`,
 -- where both x have one number
 abbrev pub bound_by_let : Behaviour
-bound_by_let = let_be ((nat_variable 0, one) ∷ []) (offering gate_g (give (plus (nat 0) (nat 0)) ∷ []) stop)
+bound_by_let = let_be ((nat_variable 0, one) ∷ []) (offering gate_g (give (sample_plus (nat 0) (nat 0)) ∷ []) stop)
 
 abbrev pub guarded_choice : Behaviour
-guarded_choice = choose_value (nat_variable 0) (guard (test_of (nat 0) nought) (offering gate_g (give (nat 0) ∷ []) stop))
+guarded_choice = choose_value (nat_variable 0) (guard (sample_test (nat 0) nought) (offering gate_g (give (nat 0) ∷ []) stop))
 
 abbrev pub bound_twice : Behaviour
 bound_twice = let_be ((nat_variable 0, one) ∷ []) (offering gate_g (ask (nat_variable 0) ∷ give (nat 0) ∷ [])
@@ -190,7 +194,7 @@ chosen_again = let_be ((nat_variable 0, one) ∷ []) (choose_value (nat_variable
 pub record ValuesAreBound : Type 0 where
   pub let_menu : HasMenu [] bound_by_let (event_line (let_bound act) (gate_event gate_g (two ∷ [])) ∷ [])
   pub guard_menu : HasMenu [] guarded_choice (
-      gives (draft (with_value (guarded act)) (gate_event gate_g (nat 0 ∷ [])) (nat 0 ∷ []) (test_of (nat 0) nought ∷ []))
+      gives (draft (with_value (guarded act)) (gate_event gate_g (nat 0 ∷ [])) (nat 0 ∷ []) (sample_test (nat 0) nought ∷ []))
       (entry (with_value (guarded act)) (gate_event gate_g (nought ∷ [])) [] (nought ∷ []) [])
       ∷ []
       )

@@ -26,33 +26,33 @@ pub record ShapesStandInOrder : Type 0 where
   pub not_from_the_last : Before (at_gate 1 act) (at_gate 0 act) → ⊥
 
 -- A process without formal gates and parameters.
-abbrev pub process_of : Behaviour → Process
-process_of body = record { name = codes "P"; gates = []; parameters = []; exit = None; body = body }
+abbrev pub process_with_body : Behaviour → Process
+process_with_body body = record { name = codes "P"; gates = []; parameters = []; exit = None; body = body }
 
 abbrev pub again : Behaviour
 again = call 0 [] []
 
 -- `P := P [] a; stop`, `P := a; P` and `P := a; stop >> P`
 abbrev pub at_once : Process
-at_once = process_of (choice again (event gate_a stop))
+at_once = process_with_body (choice again (event gate_a stop))
 
 abbrev pub after_an_action : Process
-after_an_action = process_of (event gate_a again)
+after_an_action = process_with_body (event gate_a again)
 
 abbrev pub after_enabling : Process
-after_enabling = process_of (enable (event gate_a stop) [] again)
+after_enabling = process_with_body (enable (event gate_a stop) [] again)
 
 -- `P := Q [] a; P` and `Q := b; P`
-abbrev pub first_of_two : Process
-first_of_two = process_of (choice (call 1 [] []) (event gate_a (call 0 [] [])))
+abbrev pub first_process_of_two : Process
+first_process_of_two = process_with_body (choice (call 1 [] []) (event gate_a (call 0 [] [])))
 
 abbrev pub second_of_two : Process
-second_of_two = process_of (event gate_b (call 0 [] []))
+second_of_two = process_with_body (event gate_b (call 0 [] []))
 
 -- An unguarded call makes an edge, and edges alone make no cycle. Calls are listed in the order of the text.
 pub record EdgesNeedNotMakeACycle : Type 0 where
-  pub edge : HasEdge (first_of_two ∷ second_of_two ∷ []) 0 1
-  pub guarded : IsGuarded (first_of_two ∷ second_of_two ∷ [])
+  pub edge : HasEdge (first_process_of_two ∷ second_of_two ∷ []) 0 1
+  pub guarded : IsGuarded (first_process_of_two ∷ second_of_two ∷ [])
   pub in_text_order : unguarded_calls (choice (call 0 [] []) (call 1 [] [])) ≡ 0 ∷ 1 ∷ []
 
 -- A call below an action and on the right of `>>` is guarded, and one beside them is not. Where calls are guarded there

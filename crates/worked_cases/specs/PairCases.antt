@@ -7,13 +7,13 @@ use Rattle.rewriting_theory.specs.CriticalPair.{CriticalPair}
 use Rattle.rewriting_theory.specs.PairList.{AreCriticalPairs, IsFirstUnjoined}
 use Rattle.rewriting_theory.specs.PairListLaws.{RewritesToTwo}
 use Rattle.termination_theory.specs.OrientationCases.{constant, on_one, on_two, add, zero_term, to_the_right, to_the_left, copied_rules}
-use Rattle.worked_cases.specs.Samples.{var, pair_of, two_results, one_rule, twice, meets, never_both, from_the_right}
+use Rattle.worked_cases.specs.Samples.{var, sample_critical_pair, two_results, one_rule, twice, meets, never_both, from_the_right}
 
 -- f(a) = b and f(x) = c overlap at the root, in both orders; f(a) has the two results b and c
 abbrev pub two_results_pairs : List CriticalPair
 two_results_pairs =
-    pair_of 0 1 [] (on_one 3 (constant 0)) (constant 1) (constant 2)
-    ∷ pair_of 1 0 [] (on_one 3 (constant 0)) (constant 2) (constant 1)
+    sample_critical_pair 0 1 [] (on_one 3 (constant 0)) (constant 1) (constant 2)
+    ∷ sample_critical_pair 1 0 [] (on_one 3 (constant 0)) (constant 2) (constant 1)
     ∷ []
 
 pub record TwoResultCases : Type 0 where
@@ -28,15 +28,15 @@ pub record TwoResultCases : Type 0 where
 -- (x + y) + z = x + (y + z), x + 0 = x and 0 + x = x have seven pairs, which all join
 abbrev pub sums_pairs : List CriticalPair
 sums_pairs =
-    pair_of 0 0 (0 ∷ []) (add (add (add (var 0) (var 1)) (var 2)) (var 3))
+    sample_critical_pair 0 0 (0 ∷ []) (add (add (add (var 0) (var 1)) (var 2)) (var 3))
     (add (add (var 0) (var 1)) (add (var 2) (var 3)))
     (add (add (var 0) (add (var 1) (var 2))) (var 3))
-    ∷ pair_of 0 1 [] (add (add (var 0) (var 1)) zero_term) (add (var 0) (add (var 1) zero_term)) (add (var 0) (var 1))
-    ∷ pair_of 0 1 (0 ∷ []) (add (add (var 0) zero_term) (var 1)) (add (var 0) (add zero_term (var 1))) (add (var 0) (var 1))
-    ∷ pair_of 0 2 (0 ∷ []) (add (add zero_term (var 0)) (var 1)) (add zero_term (add (var 0) (var 1))) (add (var 0) (var 1))
-    ∷ pair_of 1 0 [] (add (add (var 0) (var 1)) zero_term) (add (var 0) (var 1)) (add (var 0) (add (var 1) zero_term))
-    ∷ pair_of 1 2 [] (add zero_term zero_term) zero_term zero_term
-    ∷ pair_of 2 1 [] (add zero_term zero_term) zero_term zero_term
+    ∷ sample_critical_pair 0 1 [] (add (add (var 0) (var 1)) zero_term) (add (var 0) (add (var 1) zero_term)) (add (var 0) (var 1))
+    ∷ sample_critical_pair 0 1 (0 ∷ []) (add (add (var 0) zero_term) (var 1)) (add (var 0) (add zero_term (var 1))) (add (var 0) (var 1))
+    ∷ sample_critical_pair 0 2 (0 ∷ []) (add (add zero_term (var 0)) (var 1)) (add zero_term (add (var 0) (var 1))) (add (var 0) (var 1))
+    ∷ sample_critical_pair 1 0 [] (add (add (var 0) (var 1)) zero_term) (add (var 0) (var 1)) (add (var 0) (add (var 1) zero_term))
+    ∷ sample_critical_pair 1 2 [] (add zero_term zero_term) zero_term zero_term
+    ∷ sample_critical_pair 2 1 [] (add zero_term zero_term) zero_term zero_term
     ∷ []
 
 pub record SumCases : Type 0 where
@@ -46,9 +46,9 @@ pub record SumCases : Type 0 where
 -- f(f(x)) = f(x) overlaps itself at the argument, and so does its copy over another sort; both pairs join
 abbrev pub copies_pairs : List CriticalPair
 copies_pairs =
-    pair_of 0 0 (0 ∷ []) (on_one 1 (on_one 1 (on_one 1 (variable 0 0)))) (on_one 1 (on_one 1 (variable 0 0)))
+    sample_critical_pair 0 0 (0 ∷ []) (on_one 1 (on_one 1 (on_one 1 (variable 0 0)))) (on_one 1 (on_one 1 (variable 0 0)))
     (on_one 1 (on_one 1 (variable 0 0)))
-    ∷ pair_of 1 1 (0 ∷ []) (on_one 3 (on_one 3 (on_one 3 (variable 0 1)))) (on_one 3 (on_one 3 (variable 0 1)))
+    ∷ sample_critical_pair 1 1 (0 ∷ []) (on_one 3 (on_one 3 (on_one 3 (variable 0 1)))) (on_one 3 (on_one 3 (variable 0 1)))
     (on_one 3 (on_one 3 (variable 0 1)))
     ∷ []
 
@@ -65,7 +65,7 @@ pub record OneRuleCases : Type 0 where
 -- pairs at the root alone would not tell
 abbrev pub twice_pairs : List CriticalPair
 twice_pairs =
-    pair_of 0 0 (0 ∷ []) (on_one 2 (on_one 2 (on_one 2 (var 0)))) (on_one 1 (on_one 2 (var 0))) (on_one 2 (on_one 1 (var 0)))
+    sample_critical_pair 0 0 (0 ∷ []) (on_one 2 (on_one 2 (on_one 2 (var 0)))) (on_one 1 (on_one 2 (var 0))) (on_one 2 (on_one 1 (var 0)))
     ∷ []
 
 pub record TwiceCases : Type 0 where
@@ -77,8 +77,8 @@ pub record TwiceCases : Type 0 where
 -- a variable that stands twice in a left side: meet(f(x), f(x)) is the one overlap of meet(x, x) and meet(f(x), y)
 abbrev pub meets_pairs : List CriticalPair
 meets_pairs =
-    pair_of 0 1 [] (on_two 2 (on_one 1 (var 0)) (on_one 1 (var 0))) (on_one 1 (var 0)) (on_one 1 (var 0))
-    ∷ pair_of 1 0 [] (on_two 2 (on_one 1 (var 0)) (on_one 1 (var 0))) (on_one 1 (var 0)) (on_one 1 (var 0))
+    sample_critical_pair 0 1 [] (on_two 2 (on_one 1 (var 0)) (on_one 1 (var 0))) (on_one 1 (var 0)) (on_one 1 (var 0))
+    ∷ sample_critical_pair 1 0 [] (on_two 2 (on_one 1 (var 0)) (on_one 1 (var 0))) (on_one 1 (var 0)) (on_one 1 (var 0))
     ∷ []
 
 pub record MeetCases : Type 0 where
@@ -94,15 +94,15 @@ pub record ApartCases : Type 0 where
 -- all join
 abbrev pub left_sums_pairs : List CriticalPair
 left_sums_pairs =
-    pair_of 0 0 (1 ∷ []) (add (var 0) (add (var 1) (add (var 2) (var 3))))
+    sample_critical_pair 0 0 (1 ∷ []) (add (var 0) (add (var 1) (add (var 2) (var 3))))
     (add (add (var 0) (var 1)) (add (var 2) (var 3)))
     (add (var 0) (add (add (var 1) (var 2)) (var 3)))
-    ∷ pair_of 0 1 (1 ∷ []) (add (var 0) (add (var 1) zero_term)) (add (add (var 0) (var 1)) zero_term) (add (var 0) (var 1))
-    ∷ pair_of 0 2 [] (add zero_term (add (var 0) (var 1))) (add (add zero_term (var 0)) (var 1)) (add (var 0) (var 1))
-    ∷ pair_of 0 2 (1 ∷ []) (add (var 0) (add zero_term (var 1))) (add (add (var 0) zero_term) (var 1)) (add (var 0) (var 1))
-    ∷ pair_of 1 2 [] (add zero_term zero_term) zero_term zero_term
-    ∷ pair_of 2 0 [] (add zero_term (add (var 0) (var 1))) (add (var 0) (var 1)) (add (add zero_term (var 0)) (var 1))
-    ∷ pair_of 2 1 [] (add zero_term zero_term) zero_term zero_term
+    ∷ sample_critical_pair 0 1 (1 ∷ []) (add (var 0) (add (var 1) zero_term)) (add (add (var 0) (var 1)) zero_term) (add (var 0) (var 1))
+    ∷ sample_critical_pair 0 2 [] (add zero_term (add (var 0) (var 1))) (add (add zero_term (var 0)) (var 1)) (add (var 0) (var 1))
+    ∷ sample_critical_pair 0 2 (1 ∷ []) (add (var 0) (add zero_term (var 1))) (add (add (var 0) zero_term) (var 1)) (add (var 0) (var 1))
+    ∷ sample_critical_pair 1 2 [] (add zero_term zero_term) zero_term zero_term
+    ∷ sample_critical_pair 2 0 [] (add zero_term (add (var 0) (var 1))) (add (var 0) (var 1)) (add (add zero_term (var 0)) (var 1))
+    ∷ sample_critical_pair 2 1 [] (add zero_term zero_term) zero_term zero_term
     ∷ []
 
 -- f(x, s(y)) = f(y, y), which only a right status orients, overlaps nothing

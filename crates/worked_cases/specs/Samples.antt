@@ -14,8 +14,8 @@ abbrev pub turned_to : Term → Term → Rule
 turned_to left right = record { left = left; right = right }
 
 -- the pair of two rules at a path, with its peak and its two sides
-abbrev pub pair_of : ℕ → ℕ → List ℕ → Term → Term → Term → CriticalPair
-pair_of first second path peak left right =
+abbrev pub sample_critical_pair : ℕ → ℕ → List ℕ → Term → Term → Term → CriticalPair
+sample_critical_pair first second path peak left right =
     record { first = first; second = second; path = path; peak = peak; left = left; right = right }
 
 -- f(a) = b and f(x) = c, where a, b, c and f are the operations 0 to 3

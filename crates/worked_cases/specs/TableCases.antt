@@ -4,7 +4,8 @@ use Rattle.std.specs.Prelude.{◌≡◌, [], ◌∷◌, Some}
 use Rattle.behaviour_semantics.specs.Behaviour.{Behaviour, stop, exit_with, action, inner_action, parallel, hide, enable, let_be, choose_gate, par_gate, relabel, give, ask, exit_value, no_gates, all_gates, at_gates}
 use Rattle.behaviour_semantics.specs.Label.{inner_event, gate_event, exit_event}
 use Rattle.behaviour_semantics.specs.Shape.{act, quit, inner_step, left_side, right_side, both_sides, hidden, enabled, passed, let_bound, at_gate, relabelled}
-use Rattle.worked_cases.specs.BehaviourSamples.{nat_sort, nought, one, two, truth, plus, nat, nat_variable, gate_a, gate_b, gate_g, gate_h, gate_y, gate_z, offering, event, test_of}
+use Rattle.lotos_base.specs.SmallData.{nought}
+use Rattle.worked_cases.specs.BehaviourSamples.{nat_sort, one, two, truth, sample_plus, nat, nat_variable, gate_a, gate_b, gate_g, gate_h, gate_y, gate_z, offering, event, sample_test}
 use Rattle.worked_cases.specs.Showing.{HasMenu, Steps, gives, event_line, draft, entry, sample_move, move}
 
 -- `i; a; stop || b; stop`, the same turned round, and `i; stop || i; stop`
@@ -109,23 +110,23 @@ pub record CopiesAreNestedToTheRight : Type 0 where
 -- `let x = Succ(0) in let x = x + 0 in g !x; stop` and `let x = Succ(0) in g ?x:Nat [x = 0]; stop`, where all x have one
 -- number
 abbrev pub let_below_let : Behaviour
-let_below_let = let_be ((nat_variable 0, one) ∷ []) (let_be ((nat_variable 0, plus (nat 0) nought) ∷ [])
+let_below_let = let_be ((nat_variable 0, one) ∷ []) (let_be ((nat_variable 0, sample_plus (nat 0) nought) ∷ [])
     (offering gate_g (give (nat 0) ∷ []) stop))
 
 abbrev pub tested_below_let : Behaviour
-tested_below_let = let_be ((nat_variable 0, one) ∷ []) (action gate_g (ask (nat_variable 0) ∷ []) (Some (test_of (nat 0) nought)) stop)
+tested_below_let = let_be ((nat_variable 0, one) ∷ []) (action gate_g (ask (nat_variable 0) ∷ []) (Some (sample_test (nat 0) nought)) stop)
 
 -- The terms of a `let` are outside its scope, and an inner binder hides an outer one, also in the test of its action.
 pub record InnerBindersHideOuterOnes : Type 0 where
   pub let_menu : HasMenu [] let_below_let (event_line (let_bound (let_bound act)) (gate_event gate_g (one ∷ [])) ∷ [])
-  pub of_let : Steps [] let_below_let (let_bound (let_bound act)) [] (gate_event gate_g (plus one nought ∷ [])) stop
+  pub of_let : Steps [] let_below_let (let_bound (let_bound act)) [] (gate_event gate_g (sample_plus one nought ∷ [])) stop
   pub question_menu : HasMenu [] tested_below_let (
-      gives (draft (let_bound act) (gate_event gate_g (nat 0 ∷ [])) (nat 0 ∷ []) (test_of (nat 0) nought ∷ []))
+      gives (draft (let_bound act) (gate_event gate_g (nat 0 ∷ [])) (nat 0 ∷ []) (sample_test (nat 0) nought ∷ []))
       (entry (let_bound act) (gate_event gate_g (nought ∷ [])) [] (nought ∷ []) [])
       ∷ []
       )
   pub of_a_question : sample_move [] tested_below_let (let_bound act) (two ∷ [])
-      ≡ move (gate_event gate_g (two ∷ [])) stop (test_of two nought ∷ []) (nat_sort ∷ [])
+      ≡ move (gate_event gate_g (two ∷ [])) stop (sample_test two nought ∷ []) (nat_sort ∷ [])
 
 -- `relabel h for y, g for b in (b; relabel b for y in (y; stop))` and
 -- `choice z in [a, b] [] z; z; stop`

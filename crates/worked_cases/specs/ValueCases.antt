@@ -6,12 +6,13 @@ use Rattle.behaviour_semantics.specs.Behaviour.{Behaviour, stop, exit_with, inne
 use Rattle.behaviour_semantics.specs.Label.{Label, inner_event, gate_event, exit_event}
 use Rattle.behaviour_semantics.specs.Shape.{act, quit, inner_step, hidden, enabled, let_bound, with_value, called, relabelled}
 use Rattle.behaviour_semantics.specs.Alike.{Alike}
-use Rattle.worked_cases.specs.BehaviourSamples.{bool_sort, nat_sort, nought, succ, one, two, truth, plus, nat, nat_variable, gate_a, gate_b, gate_g, gate_h, gate_x, offering, event, sample_data}
+use Rattle.lotos_base.specs.SmallData.{nought}
+use Rattle.worked_cases.specs.BehaviourSamples.{sample_bool_sort, nat_sort, succ, one, two, truth, sample_plus, nat, nat_variable, gate_a, gate_b, gate_g, gate_h, gate_x, offering, event, sample_data}
 use Rattle.worked_cases.specs.Showing.{HasMenu, Steps, KeptSteps, as_it_is, event_line}
 
 -- `exit(any Nat, any Bool)`, `g ?x:Nat ?y:Nat; h !x !y; stop` and `choice x:Nat [] g !x ?y:Nat; stop`
 abbrev pub two_open_results : Behaviour
-two_open_results = exit_with (any_of nat_sort ∷ any_of bool_sort ∷ [])
+two_open_results = exit_with (any_of nat_sort ∷ any_of sample_bool_sort ∷ [])
 
 abbrev pub two_questions : Behaviour
 two_questions = offering gate_g (ask (nat_variable 0) ∷ ask (nat_variable 1) ∷ []) (offering gate_h (give (nat 0) ∷ give (nat 1) ∷ []) stop)
@@ -21,8 +22,9 @@ a_choice_and_a_question = choose_value (nat_variable 0) (offering gate_g (give (
 
 -- Leaves stand in order, that of a value choice first. They are as many as the move wants, of the sorts that it wants.
 pub record LeavesStandInOrder : Type 0 where
-  pub results_menu : HasMenu [] two_open_results (as_it_is quit (exit_event (nat 0 ∷ variable 1 bool_sort ∷ [])) (nat_sort ∷ bool_sort ∷ [])
-      (nat 0 ∷ variable 1 bool_sort ∷ []) [] ∷ [])
+  pub results_menu : HasMenu [] two_open_results
+      (as_it_is quit (exit_event (nat 0 ∷ variable 1 sample_bool_sort ∷ [])) (nat_sort ∷ sample_bool_sort ∷ [])
+      (nat 0 ∷ variable 1 sample_bool_sort ∷ []) [] ∷ [])
   pub results : Steps [] two_open_results quit (nought ∷ truth ∷ []) (exit_event (nought ∷ truth ∷ [])) stop
   pub questions_menu : HasMenu [] two_questions (as_it_is act (gate_event gate_g (nat 0 ∷ nat 1 ∷ [])) (nat_sort ∷ nat_sort ∷ [])
       (nat 0 ∷ nat 1 ∷ []) [] ∷ [])
@@ -66,7 +68,7 @@ handing_two = record {
 }
 
 abbrev pub called_with_two : Behaviour
-called_with_two = call 0 (gate_a ∷ []) (one ∷ plus nought nought ∷ [])
+called_with_two = call 0 (gate_a ∷ []) (one ∷ sample_plus nought nought ∷ [])
 
 -- The parameters of a process have the values of its call, one by one.
 pub record ParametersGetTheirValues : Type 0 where
@@ -93,27 +95,27 @@ pub record LetBindsTogether : Type 0 where
   pub step : Steps [] swapped_by_let (let_bound (let_bound act)) [] (gate_event gate_g (two ∷ one ∷ [])) stop
 
 -- `h !v; stop`
-abbrev pub giving : Term → Behaviour
-giving v = offering gate_h (give v ∷ []) stop
+abbrev pub giving_value : Term → Behaviour
+giving_value v = offering gate_h (give v ∷ []) stop
 
 -- `Succ(0) + 0`, which is 1
 abbrev pub sum : Term
-sum = plus one nought
+sum = sample_plus one nought
 
 -- `g ?x:Nat; h !x; stop`, `let x:Nat = Succ(0) + 0 in b; h !x; stop`, `choice x:Nat [] b; h !x; stop`,
 -- `exit(Succ(0) + 0) >> accept x:Nat in h !x; stop`, `exit(Succ(0) + 0, any Nat)`, `P[a](Succ(0) + 0)` and
 -- `b; h !Succ(0) + 0; stop`
 abbrev pub asking_and_giving : Behaviour
-asking_and_giving = offering gate_g (ask (nat_variable 0) ∷ []) (giving (nat 0))
+asking_and_giving = offering gate_g (ask (nat_variable 0) ∷ []) (giving_value (nat 0))
 
 abbrev pub binding_and_giving : Behaviour
-binding_and_giving = let_be ((nat_variable 0, sum) ∷ []) (event gate_b (giving (nat 0)))
+binding_and_giving = let_be ((nat_variable 0, sum) ∷ []) (event gate_b (giving_value (nat 0)))
 
 abbrev pub choosing_and_giving : Behaviour
-choosing_and_giving = choose_value (nat_variable 0) (event gate_b (giving (nat 0)))
+choosing_and_giving = choose_value (nat_variable 0) (event gate_b (giving_value (nat 0)))
 
 abbrev pub accepting_and_giving : Behaviour
-accepting_and_giving = enable (exit_with (exit_value sum ∷ [])) (nat_variable 0 ∷ []) (giving (nat 0))
+accepting_and_giving = enable (exit_with (exit_value sum ∷ [])) (nat_variable 0 ∷ []) (giving_value (nat 0))
 
 abbrev pub ending_with_sums : Behaviour
 ending_with_sums = exit_with (exit_value sum ∷ any_of nat_sort ∷ [])
@@ -122,27 +124,27 @@ abbrev pub called_with_a_sum : Behaviour
 called_with_a_sum = call 0 (gate_a ∷ []) (sum ∷ [])
 
 abbrev pub giving_a_sum : Behaviour
-giving_a_sum = event gate_b (giving sum)
+giving_a_sum = event gate_b (giving_value sum)
 
 -- Each value that is bound, and each value of a label, is put in canonical form; a term of the text that no variable
 -- is bound to stays as it is written. With values as they are given nothing changes.
 pub record BoundValuesAreCanonical : Type 0 where
-  pub question : KeptSteps [] asking_and_giving act (sum ∷ []) (gate_event gate_g (one ∷ [])) (giving one)
-  pub question_as_given : Steps [] asking_and_giving act (sum ∷ []) (gate_event gate_g (sum ∷ [])) (giving sum)
-  pub binding : KeptSteps [] binding_and_giving (let_bound act) [] (gate_event gate_b []) (giving one)
-  pub binding_as_given : Steps [] binding_and_giving (let_bound act) [] (gate_event gate_b []) (giving sum)
-  pub choosing : KeptSteps [] choosing_and_giving (with_value act) (sum ∷ []) (gate_event gate_b []) (giving one)
-  pub choosing_as_given : Steps [] choosing_and_giving (with_value act) (sum ∷ []) (gate_event gate_b []) (giving sum)
-  pub accepting : KeptSteps [] accepting_and_giving (enabled quit) [] inner_event (giving one)
-  pub accepting_as_given : Steps [] accepting_and_giving (enabled quit) [] inner_event (giving sum)
+  pub question : KeptSteps [] asking_and_giving act (sum ∷ []) (gate_event gate_g (one ∷ [])) (giving_value one)
+  pub question_as_given : Steps [] asking_and_giving act (sum ∷ []) (gate_event gate_g (sum ∷ [])) (giving_value sum)
+  pub binding : KeptSteps [] binding_and_giving (let_bound act) [] (gate_event gate_b []) (giving_value one)
+  pub binding_as_given : Steps [] binding_and_giving (let_bound act) [] (gate_event gate_b []) (giving_value sum)
+  pub choosing : KeptSteps [] choosing_and_giving (with_value act) (sum ∷ []) (gate_event gate_b []) (giving_value one)
+  pub choosing_as_given : Steps [] choosing_and_giving (with_value act) (sum ∷ []) (gate_event gate_b []) (giving_value sum)
+  pub accepting : KeptSteps [] accepting_and_giving (enabled quit) [] inner_event (giving_value one)
+  pub accepting_as_given : Steps [] accepting_and_giving (enabled quit) [] inner_event (giving_value sum)
   pub calling : KeptSteps (counting ∷ []) called_with_a_sum (called act) [] (gate_event gate_a (one ∷ [])) counted_to_two
   pub calling_as_given :
       Steps (counting ∷ []) called_with_a_sum (called act) [] (gate_event gate_a (sum ∷ []))
       (relabel ((gate_x, gate_a) ∷ []) (offering gate_x (give (succ sum) ∷ []) stop))
   pub ending : KeptSteps [] ending_with_sums quit (sum ∷ []) (exit_event (one ∷ one ∷ [])) stop
   pub ending_as_given : Steps [] ending_with_sums quit (sum ∷ []) (exit_event (sum ∷ sum ∷ [])) stop
-  pub given : KeptSteps [] (giving sum) act [] (gate_event gate_h (one ∷ [])) stop
-  pub written : KeptSteps [] giving_a_sum act [] (gate_event gate_b []) (giving sum)
+  pub given : KeptSteps [] (giving_value sum) act [] (gate_event gate_h (one ∷ [])) stop
+  pub written : KeptSteps [] giving_a_sum act [] (gate_event gate_b []) (giving_value sum)
 
 -- `let x:Nat = 0 in exit(x)` and `hide a in exit(Succ(0))`
 abbrev pub ending_below_let : Behaviour
@@ -173,17 +175,17 @@ pub record ValuesOfLabelsStay : Type 0 where
 
 -- `g ?x:Nat; h !t; stop`
 abbrev pub asking_before : Term → Behaviour
-asking_before t = offering gate_g (ask (nat_variable 0) ∷ []) (giving t)
+asking_before t = offering gate_g (ask (nat_variable 0) ∷ []) (giving_value t)
 
 -- Behaviours are alike where their terms are equal, also with variables, and are not where a value, an order, a gate or
 -- a kind of offer differs.
 pub record AlikeBehavioursHaveEqualTerms : Type 0 where
-  pub closed : Alike sample_data (giving sum) (giving one)
-  pub with_variables : Alike sample_data (asking_before (plus (nat 0) nought)) (asking_before (nat 0))
-  pub not_another_value : Alike sample_data (giving nought) (giving one) → ⊥
+  pub closed : Alike sample_data (giving_value sum) (giving_value one)
+  pub with_variables : Alike sample_data (asking_before (sample_plus (nat 0) nought)) (asking_before (nat 0))
+  pub not_another_value : Alike sample_data (giving_value nought) (giving_value one) → ⊥
   pub not_another_variable : Alike sample_data (asking_before (nat 0)) (asking_before one) → ⊥
   pub not_swapped : Alike sample_data (choice (event gate_a stop) (event gate_b stop)) (choice (event gate_b stop) (event gate_a stop)) → ⊥
-  pub not_another_offer : Alike sample_data (offering gate_h (ask (nat_variable 0) ∷ []) stop) (giving one) → ⊥
+  pub not_another_offer : Alike sample_data (offering gate_h (ask (nat_variable 0) ∷ []) stop) (giving_value one) → ⊥
   pub not_another_argument : Alike sample_data (call 0 [] (nought ∷ [])) (call 0 [] (one ∷ [])) → ⊥
   pub not_another_form : Alike sample_data stop (inner_action stop) → ⊥
-  pub not_fewer_offers : Alike sample_data (giving one) (event gate_h stop) → ⊥
+  pub not_fewer_offers : Alike sample_data (giving_value one) (event gate_h stop) → ⊥

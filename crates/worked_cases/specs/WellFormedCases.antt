@@ -3,7 +3,8 @@ use Rattle.std.specs.Prelude.{ℕ, List, [], ◌∷◌, codes, Some}
 use Rattle.lotos_base.specs.Term.{variable}
 use Rattle.behaviour_semantics.specs.Behaviour.{Behaviour, stop, exit_with, guard, let_be, choose_value, par_gate, call, relabel, give, ask, exit_value, any_of, no_gates, Process}
 use Rattle.behaviour_semantics.specs.WellFormed.{IsClosedBehaviour, IsSpecification}
-use Rattle.worked_cases.specs.BehaviourSamples.{bool_sort, nought, succ, one, truth, nat, nat_variable, gate_a, gate_b, gate_g, gate_x, gate_z, offering, event, test_of, sample_signature}
+use Rattle.lotos_base.specs.SmallData.{nought}
+use Rattle.worked_cases.specs.BehaviourSamples.{sample_bool_sort, succ, one, truth, nat, nat_variable, gate_a, gate_b, gate_g, gate_x, gate_z, offering, event, sample_test, sample_signature}
 use Rattle.worked_cases.specs.Showing.{sample_specification}
 use Rattle.worked_cases.specs.ValueCases.{counting}
 
@@ -27,13 +28,13 @@ pub record WhatIsNotWellFormed : Type 0 where
   pub unknown_question : IsWellFormedCase [] (offering gate_g (ask (record { name = codes "x"; number = 0; sort = no_sort }) ∷ []) stop) → ⊥
   pub unknown_result : IsWellFormedCase [] (exit_with (any_of no_sort ∷ [])) → ⊥
   -- the innermost variable with a number counts, here one of sort Nat
-  pub hidden_variable : IsWellFormedCase [] (let_be ((record { name = codes "x"; number = 0; sort = bool_sort }, truth) ∷ [])
-      (choose_value (nat_variable 0) (exit_with (exit_value (variable 0 bool_sort) ∷ [])))) → ⊥
+  pub hidden_variable : IsWellFormedCase [] (let_be ((record { name = codes "x"; number = 0; sort = sample_bool_sort }, truth) ∷ [])
+      (choose_value (nat_variable 0) (exit_with (exit_value (variable 0 sample_bool_sort) ∷ [])))) → ⊥
   pub offer_in_its_own_scope : IsWellFormedCase [] (offering gate_g (ask (nat_variable 0) ∷ give (nat 0) ∷ []) stop) → ⊥
   pub let_in_its_own_scope : IsWellFormedCase [] (let_be ((nat_variable 0, nat 0) ∷ []) stop) → ⊥
   pub let_of_another_sort : IsWellFormedCase [] (let_be ((nat_variable 0, truth) ∷ []) stop) → ⊥
   pub asked_twice : IsWellFormedCase [] (offering gate_g (ask (nat_variable 0) ∷ ask (nat_variable 0) ∷ []) stop) → ⊥
-  pub test_of_two_sorts : IsWellFormedCase [] (guard (test_of nought truth) stop) → ⊥
+  pub test_of_two_sorts : IsWellFormedCase [] (guard (sample_test nought truth) stop) → ⊥
   pub no_copies : IsWellFormedCase [] (par_gate gate_z [] no_gates (event gate_z stop)) → ⊥
   pub formal_gate_twice : IsWellFormedCase [] (relabel ((gate_x, gate_a) ∷ (gate_x, gate_b) ∷ []) stop) → ⊥
   pub missing_process : IsWellFormedCase [] (call 0 [] []) → ⊥

@@ -7,7 +7,7 @@ use Rattle.lotos_base.specs.Signature.{Operation}
 use Rattle.type_presentations.specs.OperationListView.{operations_in}
 use Rattle.type_definitions.proofs.HoldsLemmas.{holds_weaker}
 use Rattle.type_definitions.proofs.WalkLemmas.{next_of, none_of}
-use Rattle.type_definitions.specs.Presentation.{Presentation, is_marked}
+use Rattle.type_definitions.specs.Presentation.{Presentation, is_marked_number}
 use Rattle.type_definitions.specs.Actualisation.{actual_operation}
 use Rattle.type_definitions.specs.ActualisationFaults.{formal_operation_fault}
 use Rattle.type_presentations.proofs.SizeLemmas.{within_limits}
@@ -42,7 +42,7 @@ actual_of_op-requires c = (
 
 pub loop-number-preserved : goal.loop-number-preserved
 loop-number-preserved c = λ a base ops pairs each.
-    let marked = c.has-is_formal.ensures ∙ ap (λ (p : Presentation). is_marked p.formal_operations c.loop-number.number)
+    let marked = c.has-is_formal.ensures ∙ ap (λ (p : Presentation). is_marked_number p.formal_operations c.loop-number.number)
     (sym base.presentation_is) in
     looked_next (operation_lacks_actual a) (formal_operation_fault a) a.base.presentation.formal_operations (actual_operation a)
     a.base.presentation.signature.operations c.loop-number.number _ _ c.loop-number.numbers.items c.push.new.self.items
@@ -65,7 +65,7 @@ pub returns-in_err-found : goal.returns-in_err-found
 returns-in_err-found c =
     let e = err_from_is_err_and c.from_residual-in_err-found.result c.from_residual-in_err-found.ensures.1 in
     rw (e.1, e.2) (λ a base ops pairs each.
-    let marked = c.has-is_formal.ensures ∙ ap (λ (p : Presentation). is_marked p.formal_operations c.loop-number.number)
+    let marked = c.has-is_formal.ensures ∙ ap (λ (p : Presentation). is_marked_number p.formal_operations c.loop-number.number)
     (sym base.presentation_is) in
     holds_weaker _ _ c.in_err-found.field-0.0
     (λ f lacks.

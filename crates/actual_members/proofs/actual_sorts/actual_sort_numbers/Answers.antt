@@ -4,7 +4,7 @@ use Rattle.std.proofs.lemmas.Result.{err_from_is_err_and}
 use Rattle.sort_terms.specs.Operations.{sort_of}
 use Rattle.type_definitions.proofs.HoldsLemmas.{holds_weaker}
 use Rattle.type_definitions.proofs.WalkLemmas.{next_of, none_of}
-use Rattle.type_definitions.specs.Presentation.{Presentation, is_marked}
+use Rattle.type_definitions.specs.Presentation.{Presentation, is_marked_number}
 use Rattle.type_definitions.specs.Actualisation.{actual_sort}
 use Rattle.type_definitions.specs.ActualisationFaults.{formal_sort_fault}
 use Rattle.type_presentations.proofs.SizeLemmas.{within_limits}
@@ -33,7 +33,7 @@ actual_of_sort-requires c = names_few c.in_ok-names.names c.sorts.result.now _ c
 
 pub loop-number-preserved : goal.loop-number-preserved
 loop-number-preserved c = λ a base sorts pairs.
-    let marked = c.has-is_formal.ensures ∙ ap (λ (p : Presentation). is_marked p.formal_sorts c.loop-number.number)
+    let marked = c.has-is_formal.ensures ∙ ap (λ (p : Presentation). is_marked_number p.formal_sorts c.loop-number.number)
     (sym base.presentation_is) in
     looked_next (sort_lacks_actual a) (formal_sort_fault a) a.base.presentation.formal_sorts (actual_sort a)
     a.base.presentation.signature.sorts c.loop-number.number _ _ c.loop-number.numbers.items c.push.new.self.items
@@ -56,7 +56,7 @@ pub returns-in_err-found : goal.returns-in_err-found
 returns-in_err-found c =
     let e = err_from_is_err_and c.from_residual-in_err-found.result c.from_residual-in_err-found.ensures.1 in
     rw (e.1, e.2) (λ a base sorts pairs.
-    let marked = c.has-is_formal.ensures ∙ ap (λ (p : Presentation). is_marked p.formal_sorts c.loop-number.number)
+    let marked = c.has-is_formal.ensures ∙ ap (λ (p : Presentation). is_marked_number p.formal_sorts c.loop-number.number)
     (sym base.presentation_is) in
     holds_weaker _ _ c.in_err-found.field-0.0
     (λ f lacks.

@@ -6,7 +6,7 @@ use Rattle.sort_terms.specs.Operations.{sort_of}
 use Rattle.type_presentations.specs.SortListView.{sorts_in}
 use Rattle.actual_members.specs.Condensed.{sort_kind, place_of_pair}
 use Rattle.actual_members.specs.MakersView.{makers_in}
-use Rattle.actual_members.specs.Noting.{noted}
+use Rattle.actual_members.specs.Noting.{maker_noted}
 use Rattle.actual_members.specs.CameView.{sorts_with, are_one_member}
 use Rattle.actual_members.proofs.SettlingLemmas.{as_many, number_within}
 use Rattle.actual_members.proofs.MemberLemmas.{sorts_are_lawful, sort_settles, has_image, longer}
@@ -31,7 +31,7 @@ returns-clause-makers c =
     (sort_of c.in_ok-image.image)
     (makers_in c.args.came.now.makers) (makers_in c.note.new.self.makers) maker c.requires.makers c.in_ok-added.ensures.members
     (c.in_ok-note.ensures.makers
-    ∙ ap (λ (n : ℕ). noted (makers_in c.args.came.now.makers) n maker) c.in_ok-added.ensures.number)
+    ∙ ap (λ (n : ℕ). maker_noted (makers_in c.args.came.now.makers) n maker) c.in_ok-added.ensures.number)
 
 pub returns-clause-came : goal.returns-clause-came
 returns-clause-came c = λ a of.

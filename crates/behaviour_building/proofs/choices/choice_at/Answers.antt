@@ -7,7 +7,7 @@ use Rattle.ll_engine.specs.Run.{from_last}
 use Rattle.tree_building.specs.BehavioursMeaning.{choice_of_gates, choice_of_values, or_else}
 use Rattle.tree_building.specs.Meaning.{Meaning}
 use Rattle.tree_building.specs.MeaningView.{meaning}
-use Rattle.tree_building.proofs.FromLast.{from_last_more}
+use Rattle.ll_engine.proofs.Stacks.{from_last_more}
 use Rattle.behaviour_building.proofs.choices.choice_at.Goals as goal
 
 -- the first part are the names, and the second says over what the choice is

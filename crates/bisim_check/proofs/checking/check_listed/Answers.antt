@@ -1,17 +1,17 @@
 use Rattle.std.proofs.Common.{arith}
 use Rattle.std.proofs.lemmas.List.{length-map}
-use Rattle.lotos_base.proofs.Members.{at_map}
+use Rattle.lotos_base.proofs.Members.{at_map, read_member}
 use Rattle.lotos_base.specs.Equation.{Data, HasSortedSides}
 use Rattle.lotos_base.specs.Term.{Term}
 use Rattle.behaviour_semantics.proofs.InstanceLemmas.{every_at}
 use Rattle.certificate_theory.specs.MatchedPairs.{PairFails, PairIsMatched, PairsFail}
 use Rattle.menu_builder.proofs.HandedOn.{held_before, holds_after, keeps_both, keeps_itself}
 use Rattle.bisim_check.specs.Faults.{TellsPairs}
-use Rattle.bisim_check.specs.Readings.{comparison_of, pair_among, pairs_in, IsKeptReading, IsListedPair}
+use Rattle.bisim_check.specs.Readings.{comparison_of, pair_among, listed_pairs_in, IsKeptReading, IsListedPair}
 use Rattle.bisim_check.specs.Surveys.{IsSideOf}
-use Rattle.bisim_check.proofs.AnswerLemmas.{place_of, place_within, each_below_next}
+use Rattle.bisim_check.proofs.AnswerLemmas.{place_within, each_below_next}
 use Rattle.bisim_check.proofs.PairLemmas.{all_placed}
-use Rattle.bisim_check.proofs.Results.{gave_up}
+use Rattle.lotos_base.proofs.Options.{gave_up}
 use Rattle.bisim_check.proofs.SurveyLemmas.{told}
 use Rattle.bisim_check.proofs.checking.check_listed.Goals as goal
 
@@ -36,7 +36,7 @@ pub check_pair-requires-clause-listed : goal.check_pair-requires-clause-listed
 check_pair-requires-clause-listed g c =
     let reading = c.args.reading.now in
     every_at (IsListedPair reading.lefts.items reading.rights.items) reading.pairs.items c.loop-number.number c.index.result.now
-    c.requires.kept.pairs (place_of reading.pairs.items c.loop-number.number c.index.result.now (omega arith) c.index.ensures)
+    c.requires.kept.pairs (read_member reading.pairs.items c.loop-number.number c.index.result.now (omega arith) c.index.ensures)
 
 pub pair_index-requires : goal.pair_index-requires
 pair_index-requires g c =
@@ -57,20 +57,20 @@ returns-in_err-check_pair-clause-matched g c = λ b d.
     let reading = c.args.reading.now in
     let found = c.index.result.now in
     let pair = pair_among reading.lefts.items reading.rights.items found in
-    gave_up _ (TellsPairs (PairsFail compared (pairs_in reading))) c.from_residual-in_err-check_pair.result
+    gave_up _ (TellsPairs (PairsFail compared (listed_pairs_in reading))) c.from_residual-in_err-check_pair.result
     c.in_err-check_pair.field-0.0
     c.from_residual-in_err-check_pair.ensures.1
-    (told (PairFails compared (pairs_in reading) pair) (PairsFail compared (pairs_in reading)) c.in_err-check_pair.field-0.0
+    (told (PairFails compared (listed_pairs_in reading) pair) (PairsFail compared (listed_pairs_in reading)) c.in_err-check_pair.field-0.0
     (λ f h. record {
       place = c.loop-number.number;
       pair = pair;
       there = at_map (pair_among reading.lefts.items reading.rights.items) reading.pairs.items c.loop-number.number found
-          (place_of reading.pairs.items c.loop-number.number found (omega arith) c.index.ensures);
+          (read_member reading.pairs.items c.loop-number.number found (omega arith) c.index.ensures);
       fails = h;
       earlier = c.loop-number.invariant.matched b d;
     })
     (held_before (λ (e : Data) (k : Term → Term). TellsPairs (PairFails (comparison_of e k c.args.left.now c.args.right.now b d)
-    (pairs_in reading) pair) c.in_err-check_pair.field-0.0) c.loop-number.invariant.same_known
+    (listed_pairs_in reading) pair) c.in_err-check_pair.field-0.0) c.loop-number.invariant.same_known
     (c.in_err-check_pair.ensures.matched b d)))
 
 pub loop-number-preserved : goal.loop-number-preserved
@@ -82,13 +82,14 @@ loop-number-preserved g c =
     let pair = pair_among reading.lefts.items reading.rights.items found in
     record {
       matched = λ b d. each_below_next
-          (PairIsMatched (comparison_of known canon c.args.left.now c.args.right.now b d) (pairs_in reading)) (pairs_in reading)
+          (PairIsMatched (comparison_of known canon c.args.left.now c.args.right.now b d) (listed_pairs_in reading))
+          (listed_pairs_in reading)
           c.loop-number.number pair
           (at_map (pair_among reading.lefts.items reading.rights.items) reading.pairs.items c.loop-number.number found
-          (place_of reading.pairs.items c.loop-number.number found (omega arith) c.index.ensures))
+          (read_member reading.pairs.items c.loop-number.number found (omega arith) c.index.ensures))
           (c.loop-number.invariant.matched b d)
           (held_before (λ (e : Data) (k : Term → Term). PairIsMatched (comparison_of e k c.args.left.now c.args.right.now b d)
-          (pairs_in reading) pair) c.loop-number.invariant.same_known (c.in_ok-check_pair.ensures.matched b d));
+          (listed_pairs_in reading) pair) c.loop-number.invariant.same_known (c.in_ok-check_pair.ensures.matched b d));
       same_known = keeps_both c.loop-number.invariant.same_known c.in_ok-check_pair.ensures.same_known;
     }
 
@@ -98,7 +99,7 @@ returns-clause-matched g c = λ b d place pair there.
     c.loop-number.invariant.matched b d place pair
     (omega (
       arith,
-      place_within (pairs_in reading) place pair there,
+      place_within (listed_pairs_in reading) place pair there,
       length-map reading.pairs.items (pair_among reading.lefts.items reading.rights.items),
       reading.pairs.ok.0,
     )) there

@@ -10,10 +10,10 @@ use Rattle.bisim_check.specs.Events.{event_of, IsUnanswered}
 use Rattle.bisim_check.specs.Faults.{TellsPairs}
 use Rattle.bisim_check.specs.Matching.{AreEvents, ListedTowards}
 use Rattle.std.specs.Prelude.{false, true}
-use Rattle.bisim_check.specs.Readings.{comparison_of, pair_among, pairs_in}
+use Rattle.bisim_check.specs.Readings.{comparison_of, pair_among, listed_pairs_in}
 use Rattle.bisim_check.specs.Surveys.{IsSideOf, IsSurveyed, behaviour_in, side_over}
 use Rattle.bisim_check.proofs.PairLemmas.{within_states, closed_at, surveyed_at, all_placed, IsEventful, pair_matched, pair_fails_left, pair_fails_right}
-use Rattle.bisim_check.proofs.Results.{gave_up}
+use Rattle.lotos_base.proofs.Options.{gave_up}
 use Rattle.bisim_check.proofs.SurveyLemmas.{told}
 use Rattle.bisim_check.proofs.checking.check_pair.Goals as goal
 
@@ -78,12 +78,13 @@ returns-in_err-check_events-clause-matched g c = λ b d.
     let moves = map event_of c.in_ok-moves.moves.items in
     let answers = map event_of c.in_ok-answers.answers.items in
     let pair = pair_among reading.lefts.items reading.rights.items listed in
-    gave_up _ (TellsPairs (PairFails (comparison_of known canon left right b d) (pairs_in reading) pair))
+    gave_up _ (TellsPairs (PairFails (comparison_of known canon left right b d) (listed_pairs_in reading) pair))
     c.from_residual-in_err-check_events.result c.in_err-check_events.field-0.0 c.from_residual-in_err-check_events.ensures.1
-    (told (IsUnanswered (specification_of left) (specification_of right) (ListedTowards false (pairs_in reading)) false listed.line moves
-    answers) (PairFails (comparison_of known canon left right b d) (pairs_in reading) pair) c.in_err-check_events.field-0.0
+    (told (IsUnanswered (specification_of left) (specification_of right) (ListedTowards false (listed_pairs_in reading)) false
+    listed.line moves
+    answers) (PairFails (comparison_of known canon left right b d) (listed_pairs_in reading) pair) c.in_err-check_events.field-0.0
     (pair_fails_left c.closed_entries_are_events.ensures c.closed_labels_agree_where_identical.ensures known canon
-    (g.met.D.Deciding.is_canon c.args.data.now) c.requires.sides left right b d reading listed (pairs_in reading) one other
+    (g.met.D.Deciding.is_canon c.args.data.now) c.requires.sides left right b d reading listed (listed_pairs_in reading) one other
     c.state_at-one.ensures c.state_at-other.ensures moves answers
     (record {
       side = c.requires.left;
@@ -127,10 +128,11 @@ returns-clause-matched g c = λ b d.
     } in
     MatchResult-weaker c.check_events-2.result c.check_events-2.ensures
     (λ _ back. pair_matched c.closed_entries_are_events.ensures c.closed_labels_agree_where_identical.ensures known canon
-    (g.met.D.Deciding.is_canon c.args.data.now) c.requires.sides left right b d reading listed (pairs_in reading) one other
+    (g.met.D.Deciding.is_canon c.args.data.now) c.requires.sides left right b d reading listed (listed_pairs_in reading) one other
     c.state_at-one.ensures c.state_at-other.ensures moves answers here there c.in_ok-check_events.ensures back)
-    (λ f h. told (IsUnanswered (specification_of right) (specification_of left) (ListedTowards true (pairs_in reading)) true listed.line
-    answers moves) (PairFails (comparison_of known canon left right b d) (pairs_in reading) pair) f
+    (λ f h. told (IsUnanswered (specification_of right) (specification_of left) (ListedTowards true (listed_pairs_in reading))
+    true listed.line
+    answers moves) (PairFails (comparison_of known canon left right b d) (listed_pairs_in reading) pair) f
     (pair_fails_right c.closed_entries_are_events.ensures c.closed_labels_agree_where_identical.ensures known canon
-    (g.met.D.Deciding.is_canon c.args.data.now) c.requires.sides left right b d reading listed (pairs_in reading) one other
+    (g.met.D.Deciding.is_canon c.args.data.now) c.requires.sides left right b d reading listed (listed_pairs_in reading) one other
     c.state_at-one.ensures c.state_at-other.ensures moves answers here there c.in_ok-check_events.ensures) h)

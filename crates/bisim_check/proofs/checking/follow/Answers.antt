@@ -10,11 +10,11 @@ use Rattle.certificate_theory.specs.NamedStates.{LinesFail}
 use Rattle.menu_builder.proofs.HandedOn.{held_before, holds_after}
 use Rattle.bisim_check.specs.Faults.{TellsPairs}
 use Rattle.bisim_check.specs.LineView.{line_of}
-use Rattle.bisim_check.specs.Readings.{comparison_of, pair_among, pairs_in, reading_of, IsKeptReading}
+use Rattle.bisim_check.specs.Readings.{comparison_of, pair_among, listed_pairs_in, reading_of, IsKeptReading}
 use Rattle.bisim_check.specs.Surveys.{IsSideOf}
 use Rattle.bisim_check.proofs.DataLemmas.{never}
 use Rattle.bisim_check.proofs.ReadingLemmas.{few_pairs}
-use Rattle.bisim_check.proofs.Results.{gave_up}
+use Rattle.lotos_base.proofs.Options.{gave_up}
 use Rattle.bisim_check.proofs.StartLemmas.{line_fails, no_starts, pair_fails, all_fits}
 use Rattle.bisim_check.proofs.SurveyLemmas.{told}
 use Rattle.bisim_check.proofs.checking.follow.Goals as goal
@@ -64,12 +64,12 @@ returns-in_err-check_listed-clause-comes_to g c = λ b d is.
     let reading = c.read_lines.new.reading in
     gave_up _ (TellsPairs (λ (f : CertificateFault). CertificateComesTo compared lines (refused f)))
     c.from_residual-in_err-check_listed.result c.in_err-check_listed.field-0.0 c.from_residual-in_err-check_listed.ensures.1
-    (told (PairsFail compared (pairs_in reading)) (λ (f : CertificateFault). CertificateComesTo compared lines (refused f))
+    (told (PairsFail compared (listed_pairs_in reading)) (λ (f : CertificateFault). CertificateComesTo compared lines (refused f))
     c.in_err-check_listed.field-0.0
     (pair_fails compared lines (reading_of c.args.reading.now) is (reading_of reading) (c.in_ok-read_lines.ensures.read b d)
     (c.lists_the_starts.ensures.0 c.if-not-lists_the_starts.false))
     (held_before (λ (e : Data) (k : Term → Term). TellsPairs (PairsFail (comparison_of e k c.args.left.now.spec.now
-    c.args.right.now.spec.now b d) (pairs_in reading)) c.in_err-check_listed.field-0.0) c.in_ok-read_lines.ensures.same_known
+    c.args.right.now.spec.now b d) (listed_pairs_in reading)) c.in_err-check_listed.field-0.0) c.in_ok-read_lines.ensures.same_known
     (c.in_err-check_listed.ensures.matched b d)))
 
 pub overflow_cast-result : goal.overflow_cast-result
@@ -98,7 +98,7 @@ returns-clause-comes_to g c = λ b d is.
     c.args.right.now.spec.now b d) (map line_of c.args.lines.now) (reading_of c.args.reading.now) is (reading_of reading) _
     (c.in_ok-read_lines.ensures.read b d) (c.lists_the_starts.ensures.0 c.if-not-lists_the_starts.false)
     (held_before (λ (e : Data) (k : Term → Term). AllPairsAreMatched (comparison_of e k c.args.left.now.spec.now
-    c.args.right.now.spec.now b d) (pairs_in reading)) c.in_ok-read_lines.ensures.same_known
+    c.args.right.now.spec.now b d) (listed_pairs_in reading)) c.in_ok-read_lines.ensures.same_known
     (c.in_ok-check_listed.ensures.matched b d))
     (c.len.ensures ∙ (reading.pairs.ok.0
     ∙ sym (length-map reading.pairs.items (pair_among reading.lefts.items reading.rights.items))))

@@ -13,7 +13,7 @@ use Rattle.bisim_check.specs.Surveys.{IsSideOf}
 use Rattle.bisim_check.specs.declared.lines.PairLine.TheVariants.{Left}
 use Rattle.bisim_check.proofs.AnswerLemmas.{drop_at, place_given}
 use Rattle.bisim_check.proofs.ReadingLemmas.{read_on, fail_on, fail_now}
-use Rattle.bisim_check.proofs.Results.{gave_up}
+use Rattle.lotos_base.proofs.Options.{gave_up}
 use Rattle.bisim_check.proofs.SurveyLemmas.{told}
 use Rattle.bisim_check.proofs.checking.read_lines.Goals as goal
 

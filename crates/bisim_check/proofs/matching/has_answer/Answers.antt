@@ -1,12 +1,12 @@
 use Rattle.std.proofs.Common.{refl, sym, ◌∙◌, arith}
 use Rattle.std.proofs.lemmas.List.{length-map}
-use Rattle.lotos_base.proofs.Members.{at_map}
+use Rattle.lotos_base.proofs.Members.{at_map, read_member}
 use Rattle.std.specs.Prelude.{map}
 use Rattle.behaviour_tree.specs.DefinitionView.{specification_of}
 use Rattle.bisim_check.specs.Events.{event_of}
 use Rattle.bisim_check.specs.Matching.{IsAnswer, ListedTowards}
-use Rattle.bisim_check.specs.Readings.{pairs_in}
-use Rattle.bisim_check.proofs.AnswerLemmas.{place_of, place_within, none_below_next}
+use Rattle.bisim_check.specs.Readings.{listed_pairs_in}
+use Rattle.bisim_check.proofs.AnswerLemmas.{place_within, none_below_next}
 use Rattle.bisim_check.proofs.DataLemmas.{never}
 use Rattle.bisim_check.proofs.matching.has_answer.Goals as goal
 
@@ -18,7 +18,7 @@ returns-then-is_answer c =
         place = c.loop-position.position;
         answer = event_of found;
         there = at_map event_of answers c.loop-position.position found
-            (place_of answers c.loop-position.position found (omega arith) c.index.ensures);
+            (read_member answers c.loop-position.position found (omega arith) c.index.ensures);
         is = c.is_answer.ensures.0 c.if-is_answer.true;
       }),
       (λ _. refl),
@@ -29,9 +29,11 @@ loop-position-preserved c =
     let answers = c.args.answers.now.items in
     let found = c.index.result.now in
     none_below_next (IsAnswer (specification_of c.args.one.now) (specification_of c.args.other.now)
-    (ListedTowards c.args.right (pairs_in c.args.reading.now)) (event_of c.args.event.now)) (map event_of answers) c.loop-position.position
+    (ListedTowards c.args.right (listed_pairs_in c.args.reading.now)) (event_of c.args.event.now)) (map event_of answers)
+    c.loop-position.position
     (event_of found)
-    (at_map event_of answers c.loop-position.position found (place_of answers c.loop-position.position found (omega arith) c.index.ensures))
+    (at_map event_of answers c.loop-position.position found
+    (read_member answers c.loop-position.position found (omega arith) c.index.ensures))
     c.loop-position.invariant (λ h. never (sym c.if-is_answer.false ∙ c.is_answer.ensures.1 h))
 
 pub returns : goal.returns

@@ -4,7 +4,7 @@ use Rattle.certificate_theory.specs.NamedStates.{LineFails}
 use Rattle.bisim_check.specs.Faults.{TellsPairs}
 use Rattle.bisim_check.specs.Readings.{comparison_of, reading_of, IsOpenFault}
 use Rattle.bisim_check.specs.Surveys.{behaviours_in}
-use Rattle.bisim_check.proofs.Results.{gave_up}
+use Rattle.lotos_base.proofs.Options.{gave_up}
 use Rattle.bisim_check.proofs.SurveyLemmas.{told}
 use Rattle.bisim_check.proofs.ReadingLemmas.{lacks_left, lacks_right, opens_left, opens_right, pair_read}
 use Rattle.bisim_check.proofs.named.add_pair.Goals as goal

@@ -7,7 +7,7 @@ use Rattle.certificate_theory.specs.NamedStates.{NamesNoState, NamesState}
 use Rattle.menu_builder.proofs.HandedOn.{held_before, holds_after}
 use Rattle.bisim_check.specs.Faults.{TellsPairs}
 use Rattle.bisim_check.specs.Surveys.{IsSideOf, IsStateIn, IsSurveyed, behaviours_in, side_over}
-use Rattle.bisim_check.proofs.Results.{gave_up}
+use Rattle.lotos_base.proofs.Options.{gave_up}
 use Rattle.bisim_check.proofs.SurveyLemmas.{surveyed_more}
 use Rattle.bisim_check.proofs.named.add_state.Goals as goal
 

@@ -2,8 +2,8 @@ use Rattle.std.proofs.Common.{arith}
 use Rattle.bisim_check.specs.Faults.{TellsPairs}
 use Rattle.bisim_check.specs.Readings.{IsClosedOne, IsOpenFault}
 use Rattle.bisim_check.proofs.AnswerLemmas.{each_below, place_within}
-use Rattle.bisim_check.proofs.ReadingLemmas.{every_from}
-use Rattle.bisim_check.proofs.Results.{gave_up}
+use Rattle.behaviour_semantics.proofs.EveryLemmas.{every_from}
+use Rattle.lotos_base.proofs.Options.{gave_up}
 use Rattle.bisim_check.proofs.named.closed_menu.Goals as goal
 
 pub returns-in_err-closed_at : goal.returns-in_err-closed_at

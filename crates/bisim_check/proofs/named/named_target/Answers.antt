@@ -7,7 +7,7 @@ use Rattle.behaviour_tree.specs.StateView.{state_of}
 use Rattle.menu_builder.specs.Menus.{entries_in}
 use Rattle.bisim_check.specs.Faults.{TellsPairs}
 use Rattle.bisim_check.specs.Surveys.{behaviours_in, side_over}
-use Rattle.bisim_check.proofs.Results.{gave_up}
+use Rattle.lotos_base.proofs.Options.{gave_up}
 use Rattle.bisim_check.proofs.SurveyLemmas.{told, entry_there, entry_over, found_surveyed, names, names_open, names_no_entry, names_no_state, some_member}
 use Rattle.bisim_check.proofs.named.named_target.Goals as goal
 

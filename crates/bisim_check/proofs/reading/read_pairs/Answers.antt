@@ -3,7 +3,7 @@ use Rattle.std.proofs.lemmas.List.{length-map}
 use Rattle.bisim_check.specs.LineTexts.{IsFirstBadLine, IsNoLine}
 use Rattle.bisim_check.specs.LineView.{BadLineIs, line_of}
 use Rattle.bisim_check.proofs.LineReadings.{bad_told, first_bad}
-use Rattle.bisim_check.proofs.Results.{gave_up}
+use Rattle.lotos_base.proofs.Options.{gave_up}
 use Rattle.bisim_check.proofs.reading.read_pairs.Goals as goal
 
 pub returns-in_err-add_line-clause-read : goal.returns-in_err-add_line-clause-read

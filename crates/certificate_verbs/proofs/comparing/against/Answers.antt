@@ -1,5 +1,5 @@
 use Rattle.std.proofs.Common.{[], None}
-use Rattle.command_words.specs.HandedOn.{Acceptance, IsAccepted, asked_for, shelf_state}
+use Rattle.command_words.specs.HandedOn.{Acceptance, IsAccepted, asked_acceptance, shelf_state}
 use Rattle.certificate_verbs.specs.Comparing.{AcceptsNamed, AcceptsThen, ComparesThen}
 use Rattle.certificate_verbs.specs.Printed.{IsFaultPrinted, print_in}
 use Rattle.certificate_verbs.specs.declared.printing.Alone.{Alone}
@@ -25,7 +25,7 @@ returns-in-Err g c = λ first h.
     (g.F.Shelf.calls c.read_with_text.new.shelf))
     (λ (alone : Alone). IsFaultPrinted c.args.other.now None c.in-Err.fault (print_in alone)) c.failed_alone.result
     c.failed_alone.ensures
-    (λ alone is. fault_ready c.args.other.now None (IsAccepted (asked_for c.args.other.now None []))
+    (λ alone is. fault_ready c.args.other.now None (IsAccepted (asked_acceptance c.args.other.now None []))
     (λ (x : Acceptance). ComparesThen first x c.args.pairs.now) _ _ c.in-Err.fault (print_in alone) c.in-Err.ensures is)
-    (fault_came c.args.other.now None (IsAccepted (asked_for c.args.other.now None []))
+    (fault_came c.args.other.now None (IsAccepted (asked_acceptance c.args.other.now None []))
     (λ (x : Acceptance). ComparesThen first x c.args.pairs.now) _ _ c.in-Err.fault c.in-Err.ensures)

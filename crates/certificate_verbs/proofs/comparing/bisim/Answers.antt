@@ -1,6 +1,6 @@
 use Rattle.std.proofs.Common.{[], None}
-use Rattle.command_words.specs.HandedOn.{Acceptance, IsAccepted, asked_for, shelf_state}
-use Rattle.command_words.specs.Words.{compared as names_compared}
+use Rattle.command_words.specs.HandedOn.{Acceptance, IsAccepted, asked_acceptance, shelf_state}
+use Rattle.command_words.specs.Words.{compared_files as names_compared}
 use Rattle.certificate_verbs.specs.Comparing.{AcceptsNamed, AcceptsThen, ChecksCertificate}
 use Rattle.certificate_verbs.specs.Printed.{IsFaultPrinted, print_in}
 use Rattle.certificate_verbs.specs.declared.printing.Alone.{Alone}
@@ -26,7 +26,7 @@ returns-in-Err g c =
     (g.F.Shelf.calls c.read_with_text.new.shelf))
     (λ (alone : Alone). IsFaultPrinted c.args.spec.now None c.in-Err.fault (print_in alone)) c.failed_alone.result
     c.failed_alone.ensures
-    (λ alone is. fault_ready c.args.spec.now None (IsAccepted (asked_for c.args.spec.now None []))
+    (λ alone is. fault_ready c.args.spec.now None (IsAccepted (asked_acceptance c.args.spec.now None []))
     (λ (x : Acceptance). AcceptsThen x c.args.other.now c.args.pairs.now) _ _ c.in-Err.fault (print_in alone) c.in-Err.ensures is)
-    (fault_came c.args.spec.now None (IsAccepted (asked_for c.args.spec.now None []))
+    (fault_came c.args.spec.now None (IsAccepted (asked_acceptance c.args.spec.now None []))
     (λ (x : Acceptance). AcceptsThen x c.args.other.now c.args.pairs.now) _ _ c.in-Err.fault c.in-Err.ensures)

@@ -1,6 +1,6 @@
 use Rattle.std.proofs.Common.{◌≤◌, List, length, ap, ◌∙◌, subst, sym, arith}
 use Rattle.std.specs.Prelude.{IfOk}
-use Rattle.lotos_base.proofs.ExampleHelpers.{Each}
+use Rattle.lotos_base.proofs.Each.{Each}
 use Rattle.lotos_base.specs.Equation.{Data}
 use Rattle.lotos_base.specs.Limits.{text_limit}
 use Rattle.sort_terms.specs.EquationView.{data_of}

@@ -1,5 +1,5 @@
 use Rattle.std.proofs.Common.{[], None}
-use Rattle.command_words.specs.HandedOn.{Acceptance, IsAccepted, asked_for, shelf_state}
+use Rattle.command_words.specs.HandedOn.{Acceptance, IsAccepted, asked_acceptance, shelf_state}
 use Rattle.command_words.specs.Words.{induced as names_induced}
 use Rattle.certificate_verbs.specs.Comparing.{AcceptsNamed}
 use Rattle.certificate_verbs.specs.Inducing.{ProvesThen, ChecksInduction}
@@ -27,7 +27,7 @@ returns-in-Err g c =
     (g.F.Shelf.calls c.read_with_requirements.new.shelf))
     (λ (alone : Alone). IsFaultPrinted c.args.spec.now None c.in-Err.fault (print_in alone)) c.failed_alone.result
     c.failed_alone.ensures
-    (λ alone is. fault_ready c.args.spec.now None (IsAccepted (asked_for c.args.spec.now None []))
+    (λ alone is. fault_ready c.args.spec.now None (IsAccepted (asked_acceptance c.args.spec.now None []))
     (λ (x : Acceptance). ProvesThen c.args.spec.now x c.args.proofs.now) _ _ c.in-Err.fault (print_in alone) c.in-Err.ensures is)
-    (fault_came c.args.spec.now None (IsAccepted (asked_for c.args.spec.now None []))
+    (fault_came c.args.spec.now None (IsAccepted (asked_acceptance c.args.spec.now None []))
     (λ (x : Acceptance). ProvesThen c.args.spec.now x c.args.proofs.now) _ _ c.in-Err.fault c.in-Err.ensures)

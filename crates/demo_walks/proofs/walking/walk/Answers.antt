@@ -6,7 +6,7 @@ use Rattle.lotos_base.specs.Term.{Term}
 use Rattle.sort_terms.specs.declared.sorted.Sorted.{Sorted}
 use Rattle.history_lines.specs.HandedOn.{basis_over, terms_of}
 use Rattle.demo_walks.specs.DemoWalk.{Goes, rounds_steps, store_step}
-use Rattle.demo_walks.specs.WalkView.{IsOnWalk, reached, values_of}
+use Rattle.demo_walks.specs.WalkView.{IsOnWalk, walk_reached, walk_values_of}
 use Rattle.demo_walks.proofs.WalkLemmas.{goes_once, over_same_spec}
 use Rattle.demo_walks.proofs.walking.walk.Goals as goal
 
@@ -20,14 +20,14 @@ returns-clause-leads g c =
     let known = g.D.Deciding.known_data c.args.data.now in
     let canon = g.D.Deciding.canon c.args.data.now in
     let spec = c.args.session.now.spec in
-    let values = values_of c.args.values.now in
+    let values = walk_values_of c.args.values.now in
     on_ok_weaker c.step.result (λ goes.
-    goes_once (basis_over known canon spec) (rounds_steps values c.args.cells 4) store_step (reached c.args.session.now)
-    (reached c.rounds.new.session) (reached c.step.new.session) c.in_ok-rounds.ensures.leads
+    goes_once (basis_over known canon spec) (rounds_steps values c.args.cells 4) store_step (walk_reached c.args.session.now)
+    (walk_reached c.rounds.new.session) (walk_reached c.step.new.session) c.in_ok-rounds.ensures.leads
     (subst (λ (given : List Sorted). Goes (basis_over known canon spec) (record { number = 1; values = Some (terms_of given) })
-    (reached c.rounds.new.session) (reached c.step.new.session)) c.new.ensures.items
+    (walk_reached c.rounds.new.session) (walk_reached c.step.new.session)) c.new.ensures.items
     (over_same_spec known _ canon _ spec _ (λ basis. Goes basis (record { number = 1; values = Some (terms_of c.new.result.items) })
-    (reached c.rounds.new.session) (reached c.step.new.session)) c.in_ok-rounds.ensures.same_known.same_data
+    (walk_reached c.rounds.new.session) (walk_reached c.step.new.session)) c.in_ok-rounds.ensures.same_known.same_data
     c.in_ok-rounds.ensures.same_known.same_canon
     c.in_ok-rounds.ensures.same_spec goes))) c.step.ensures.goes
 

@@ -8,13 +8,14 @@ use Rattle.sort_terms.specs.declared.sorted.Sorted.{Sorted}
 use Rattle.term_match.specs.ProfiledInstance.{profiled_binding, profiled_instance}
 use Rattle.term_match.specs.SubstView.{profiled_pairs}
 use Rattle.behaviour_tree.specs.StateView.{environment_of}
-use Rattle.draft_parts.specs.Environments.{Suits}
+use Rattle.draft_parts.specs.Environments.{SuitsPairs}
 use Rattle.draft_parts.proofs.PairLemmas.{ready_of}
 use Rattle.draft_parts.proofs.environments.placed.Goals as goal
 
 pub put_into-requires : goal.put_into-requires
 put_into-requires c =
-    subst (λ (ps : List (ℕ × Sorted)). Suits (profiled_pairs ps) (profiled_in c.args.term.now)) (sym c.as_slice.ensures.value) c.requires
+    subst (λ (ps : List (ℕ × Sorted)). SuitsPairs (profiled_pairs ps) (profiled_in c.args.term.now))
+    (sym c.as_slice.ensures.value) c.requires
 
 pub returns-clause-same : goal.returns-clause-same
 returns-clause-same c =

@@ -7,7 +7,9 @@ use Rattle.draft_parts.specs.Rows.{call_pairs, calls_copied}
 use Rattle.behaviour_tree.specs.BehaviourView.{meet_of}
 use Rattle.draft_parts.specs.Lists.{plain_drafts}
 use Rattle.draft_parts.specs.HasDrafts.{all_relabelled, row_drafts}
-use Rattle.draft_parts.specs.Made.{AreThese}
+use Rattle.std.proofs.lemmas.Result.{IfOk-weaker}
+use Rattle.draft_parts.specs.RowDrafts.{IsThisSide, side_drafts}
+use Rattle.draft_parts.proofs.RowDraftLemmas.{side_is}
 use Rattle.draft_parts.proofs.MadeLemmas.{by_rule_of, one_copy, row_from}
 use Rattle.draft_parts.proofs.gates.calls_beside.Goals as goal
 
@@ -25,8 +27,8 @@ loop-at-preserved c = (
       here.same in
       let back : c.loop-at.at ≡ (c.loop-at.at - 1) + 1 = omega arith in
       one_copy signature (meet_of c.args.meet.now) c.args.first copy gates (c.loop-at.at - 1)
-      c.index.result.now c.index.result.now _ (plain_drafts c.in_ok-copy.copy.items) (plain_drafts c.loop-at.made.items)
-      c.in_ok-made.made.items (let within : c.loop-at.at - 1 < length gates = omega (arith, c.loop-at.invariant.0) in within)
+      c.index.result.now c.index.result.now _ (plain_drafts c.in_ok-copy.copy.items) (side_drafts c.args.first c.loop-at.made)
+      c.in_ok-made.made (let within : c.loop-at.at - 1 < length gates = omega (arith, c.loop-at.invariant.0) in within)
       c.index.ensures
       (ap (λ (n : ℕ). eqb ((c.loop-at.at - 1) + 1) n)
       (let count : c.len.result ≡ length c.args.gates.now.items = omega arith in count))
@@ -38,8 +40,11 @@ loop-at-preserved c = (
 )
 
 pub returns : goal.returns
-returns c = λ signature h.
+returns c =
     let none : c.loop-at.at ≡ 0 = omega (arith, c.loop-at-test.false) in
-    subst (λ (n : ℕ). AreThese signature (row_drafts signature (meet_of c.args.meet.now) c.args.first
+    IfOk-weaker c.drafts.result _ _ (λ made e signature h.
+    side_is signature c.args.first c.loop-at.made _ made.items
+    (subst (λ (n : ℕ). IsThisSide signature c.args.first (row_drafts signature (meet_of c.args.meet.now) c.args.first
     (calls_copied c.args.formal (drop n c.args.gates.now.items) c.args.call.now.formals.now.items
-    c.args.call.now.actuals.now.items (plain_drafts c.args.part.now.items))) c.loop-at.made.items) none (c.loop-at.invariant.1 signature h)
+    c.args.call.now.actuals.now.items (plain_drafts c.args.part.now.items))) c.loop-at.made) none (c.loop-at.invariant.1 signature h))
+    (λ over. e signature over)) c.drafts.ensures

@@ -6,15 +6,15 @@ use Rattle.draft_parts.specs.DraftTerms.{HasTermsOf}
 use Rattle.draft_parts.specs.Lists.{plain_drafts}
 use Rattle.draft_parts.specs.HasDrafts.{row_drafts}
 use Rattle.draft_parts.specs.Rows.{copied}
-use Rattle.draft_parts.specs.Made.{AreThese}
+use Rattle.draft_parts.specs.RowDrafts.{IsThisSide}
 use Rattle.draft_parts.proofs.gates.copies_beside.Given as goal
 
 abbrev pub invariant-loop-at : goal.invariant-loop-at
 invariant-loop-at l =
     (l.at ≤ length l.gates.items)
     × ((signature : Signature) → Every (HasTermsOf signature) l.part.items
-    → AreThese signature (row_drafts signature (meet_of l.meet) l.first
-    (copied l.formal (drop l.at l.gates.items) (plain_drafts l.part.items))) l.made.items)
+    → IsThisSide signature l.first (row_drafts signature (meet_of l.meet) l.first
+    (copied l.formal (drop l.at l.gates.items) (plain_drafts l.part.items))) l.made)
 
 abbrev pub decreases-loop-at : goal.decreases-loop-at
 decreases-loop-at l = l.at

@@ -1,13 +1,13 @@
 use Rattle.std.proofs.Common.{◌≤◌, ◌<◌, List, ℕ, ap, ◌∙◌, subst, sym, arith}
 use Rattle.sort_terms.specs.SortedView.{term_in}
-use Rattle.draft_solving.specs.Merging.{AreLinksOf, number_of, used}
+use Rattle.draft_solving.specs.Merging.{AreLinksOf, number_of_variable, used}
 use Rattle.draft_solving.proofs.LinkLemmas.{used_first, used_second}
 use Rattle.draft_solving.proofs.merging.use_condition.Goals as goal
 
 pub returns-then-left-right-clause-used : goal.returns-then-left-right-clause-used
 returns-then-left-right-clause-used c = λ number n_below m_below h.
-    let n : ℕ = number_of (term_in c.args.condition.now.0) in
-    let m : ℕ = number_of (term_in c.args.condition.now.1) in
+    let n : ℕ = number_of_variable (term_in c.args.condition.now.0) in
+    let m : ℕ = number_of_variable (term_in c.args.condition.now.1) in
     let f = c.least-left.ensures.least number h in
     let s = c.least-right.ensures.least number h in
     let under : c.least-right.result ≤ m = omega (arith, c.least-right.ensures.below, c.number_in-2.ensures) in
@@ -18,8 +18,8 @@ returns-then-left-right-clause-used c = λ number n_below m_below h.
 
 pub returns-clause-used : goal.returns-clause-used
 returns-clause-used c = λ number n_below m_below h.
-    let n : ℕ = number_of (term_in c.args.condition.now.0) in
-    let m : ℕ = number_of (term_in c.args.condition.now.1) in
+    let n : ℕ = number_of_variable (term_in c.args.condition.now.0) in
+    let m : ℕ = number_of_variable (term_in c.args.condition.now.1) in
     let f = c.least-left.ensures.least number h in
     let s = c.least-right.ensures.least number h in
     let under : c.least-left.result ≤ n = omega (arith, c.least-left.ensures.below, c.number_in.ensures) in

@@ -3,7 +3,7 @@ use Rattle.behaviour_tree.specs.Over.{AreTermsOf}
 use Rattle.event_offers.specs.OfferView.{plain_draft, plain_entry}
 use Rattle.event_offers.specs.Offers.{AreConditionsOf}
 use Rattle.event_offers.specs.Renaming.{renaming_of}
-use Rattle.draft_solving.specs.Variables.{found_sorts, places_in}
+use Rattle.draft_solving.specs.Variables.{found_sorts, places_by_sorts}
 use Rattle.event_offers.specs.declared.renaming.Renaming.TheVariants.{Placed}
 use Rattle.draft_solving.proofs.EntryLemmas.{entry_is}
 use Rattle.event_offers.proofs.RenamingLemmas.{renamed_terms_of, renamed_pairs_of}
@@ -19,7 +19,7 @@ returns-clause-same c =
       conditions = c.in_ok-conditions.conditions;
     }))
     c.in_ok-places.field-0.items (renaming_of (Placed c.in_ok-places.field-0)) refl
-    (c.in_ok-places.ensures ∙ ap (places_in 0 0) c.in_ok-sorts.ensures) refl
+    (c.in_ok-places.ensures ∙ ap (places_by_sorts 0 0) c.in_ok-sorts.ensures) refl
     (c.in_ok-vars.ensures ∙ ap found_sorts c.in_ok-sorts.ensures)
     c.in_ok-label.ensures.same c.in_ok-leaves.ensures.same c.in_ok-conditions.ensures.same
 

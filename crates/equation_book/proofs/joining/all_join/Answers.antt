@@ -2,7 +2,7 @@ use Rattle.std.proofs.Common.{List, sym, ◌∙◌, ap, subst}
 use Rattle.std.specs.Prelude.{Option, IfNone, IfSome, slice_get}
 use Rattle.path_order.specs.RulesView.{plain_rules_in, signature_in}
 use Rattle.equation_book.specs.Joining.{NoneUnjoinedAmong, AnswersFirst, IsAnswerOver}
-use Rattle.equation_book.specs.PairView.{pairs_in}
+use Rattle.equation_book.specs.PairView.{critical_pairs_in}
 use Rattle.equation_book.specs.declared.joining.Unjoined.{Unjoined}
 use Rattle.equation_book.specs.declared.pair.Pair.{Pair}
 use Rattle.equation_book.specs.JoinedFacts.{joined_confluent}
@@ -22,8 +22,8 @@ returns-then-joined-clause-confluent c = joined_confluent c.of.result
 pub of-requires-in-None : goal.of-requires-in-None
 of-requires-in-None c =
     ∣ joined_rules c.args.rules c.in_ok-found.found.items c.in_ok-found.ensures.listed
-    (subst (λ (xs : List Pair). NoneUnjoinedAmong (plain_rules_in c.args.rules) (pairs_in xs)) c.as_slice.ensures.value
-    (subst (λ (o : Option Unjoined). IfNone o (NoneUnjoinedAmong (plain_rules_in c.args.rules) (pairs_in c.as_slice.result.now)))
+    (subst (λ (xs : List Pair). NoneUnjoinedAmong (plain_rules_in c.args.rules) (critical_pairs_in xs)) c.as_slice.ensures.value
+    (subst (λ (o : Option Unjoined). IfNone o (NoneUnjoinedAmong (plain_rules_in c.args.rules) (critical_pairs_in c.as_slice.result.now)))
     c.in-None.is c.in_ok-first_unjoined.ensures.none)) ∣₁
 
 pub returns-in-None-clause-confluent : goal.returns-in-None-clause-confluent
@@ -33,8 +33,10 @@ pub returns-in-Some-clause-unjoined : goal.returns-in-Some-clause-unjoined
 returns-in-Some-clause-unjoined c =
     unjoined_rules (signature_in c.args.rules) c.args.rules c.in_ok-found.found.items c.in-Some.unjoined c.in_ok-found.ensures.listed
     c.in_ok-found.ensures.is_of
-    (subst (λ (xs : List Pair). AnswersFirst (plain_rules_in c.args.rules) (pairs_in xs) c.in-Some.unjoined) c.as_slice.ensures.value
-    (subst (λ (o : Option Unjoined). IfSome o (λ answer. AnswersFirst (plain_rules_in c.args.rules) (pairs_in c.as_slice.result.now)
+    (subst (λ (xs : List Pair). AnswersFirst (plain_rules_in c.args.rules) (critical_pairs_in xs) c.in-Some.unjoined)
+    c.as_slice.ensures.value
+    (subst
+    (λ (o : Option Unjoined). IfSome o (λ answer. AnswersFirst (plain_rules_in c.args.rules) (critical_pairs_in c.as_slice.result.now)
     answer))
     c.in-Some.is c.in_ok-first_unjoined.ensures.some))
 

@@ -5,7 +5,7 @@ use Rattle.path_order.specs.RulesView.{plain_rules_in, signature_in}
 use Rattle.equation_book.specs.Extended.{AddsPairsOf}
 use Rattle.equation_book.specs.Joining.{NoneUnjoinedAmong}
 use Rattle.equation_book.specs.Listing.{ArePairsOver}
-use Rattle.equation_book.specs.PairView.{pairs_in}
+use Rattle.equation_book.specs.PairView.{critical_pairs_in}
 use Rattle.equation_book.specs.declared.joining.Unjoined.{Unjoined}
 use Rattle.equation_book.specs.declared.pair.Pair.{Pair}
 use Rattle.equation_book.proofs.ExtendLemmas.{nothing_over}
@@ -26,6 +26,7 @@ returns-in-None-clause-joined c = λ _ rule is.
     joined_found c.args.rules.now (places_with c.args.first rule 0 (plain_rules_in c.args.rules.now)) c.in_ok-found.found.items
     (subst (λ (ps : List Pair). AddsPairsOf c.args.rules.now (places_with c.args.first rule 0 (plain_rules_in c.args.rules.now)) ps
     c.in_ok-found.found.items) c.new.ensures.items (c.in_ok-found.ensures rule is))
-    (subst (λ (xs : List Pair). NoneUnjoinedAmong (plain_rules_in c.args.rules.now) (pairs_in xs)) c.as_slice.ensures.value
-    (subst (λ (o : Option Unjoined). IfNone o (NoneUnjoinedAmong (plain_rules_in c.args.rules.now) (pairs_in c.as_slice.result.now)))
+    (subst (λ (xs : List Pair). NoneUnjoinedAmong (plain_rules_in c.args.rules.now) (critical_pairs_in xs)) c.as_slice.ensures.value
+    (subst
+    (λ (o : Option Unjoined). IfNone o (NoneUnjoinedAmong (plain_rules_in c.args.rules.now) (critical_pairs_in c.as_slice.result.now)))
     c.in-None.is c.in_ok-first_unjoined.ensures.none))

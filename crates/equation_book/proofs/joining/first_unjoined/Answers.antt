@@ -3,7 +3,7 @@ use Rattle.std.specs.Prelude.{Option, IfNone, IfSome}
 use Rattle.std.proofs.lemmas.Option.{same_Some}
 use Rattle.path_order.specs.RulesView.{plain_rules_in, signature_in}
 use Rattle.equation_book.specs.Joining.{NoneUnjoinedAmong, AnswersPair, IsAnswerOver}
-use Rattle.equation_book.specs.PairView.{pair_of}
+use Rattle.equation_book.specs.PairView.{critical_pair_of}
 use Rattle.equation_book.specs.declared.joining.Unjoined.{Unjoined}
 use Rattle.equation_book.proofs.JoiningLemmas.{pair_listed, item_there, listed_within, alone}
 use Rattle.equation_book.proofs.joining.first_unjoined.Goals as goal
@@ -16,11 +16,11 @@ unjoined_at-requires-clause-over c =
 pub returns-in-Some-clause-some : goal.returns-in-Some-clause-some
 returns-in-Some-clause-some c = record {
   number = c.loop-pair.pair-index;
-  pair = pair_of c.pair-item.result;
+  pair = critical_pair_of c.pair-item.result;
   is_pair = pair_listed c.args.pairs.now c.loop-pair.pair-index c.pair-item.result
       (item_there c.args.pairs.now c.loop-pair.pair-index c.pair-item.result c.loop-pair-test.true c.pair-item.is);
   answers = subst (λ (o : Option Unjoined). IfSome o
-      (λ answer. AnswersPair (plain_rules_in c.args.rules.now) (pair_of c.pair-item.result) answer))
+      (λ answer. AnswersPair (plain_rules_in c.args.rules.now) (critical_pair_of c.pair-item.result) answer))
       c.in-Some.is c.in_ok-unjoined.ensures.some;
   none_before = λ k earlier t u less is. c.loop-pair.invariant.0 k less earlier t u is;
 }
@@ -32,13 +32,15 @@ returns-in-Some-clause-over c =
 
 pub loop-pair-preserved : goal.loop-pair-preserved
 loop-pair-preserved c =
-    let none : NoneUnjoinedAmong (plain_rules_in c.args.rules.now) (pair_of c.pair-item.result ∷ []) =
-    subst (λ (o : Option Unjoined). IfNone o (NoneUnjoinedAmong (plain_rules_in c.args.rules.now) (pair_of c.pair-item.result ∷ [])))
+    let none : NoneUnjoinedAmong (plain_rules_in c.args.rules.now) (critical_pair_of c.pair-item.result ∷ []) =
+    subst
+    (λ (o : Option Unjoined). IfNone o (NoneUnjoinedAmong (plain_rules_in c.args.rules.now) (critical_pair_of c.pair-item.result ∷ [])))
     c.in_default.is c.in_ok-unjoined.ensures.none in
     let there = pair_listed c.args.pairs.now c.loop-pair.pair-index c.pair-item.result
     (item_there c.args.pairs.now c.loop-pair.pair-index c.pair-item.result c.loop-pair-test.true c.pair-item.is) in (
       below_more _ _ c.loop-pair.invariant.0
-          (λ pair t u is. alone (plain_rules_in c.args.rules.now) (pair_of c.pair-item.result) pair t u none (same_Some _ _ (sym there ∙ is))),
+          (λ pair t u is. alone (plain_rules_in c.args.rules.now) (critical_pair_of c.pair-item.result) pair t u none
+          (same_Some _ _ (sym there ∙ is))),
       c.unjoined_at.ensures.finder,
     )
 

@@ -6,7 +6,7 @@ use Rattle.path_order.specs.RulesView.{signature_in}
 use Rattle.path_order.proofs.RulesLemmas.{rules_have_forms}
 use Rattle.term_store.specs.Kept.{chosen_form}
 use Rattle.term_store.proofs.CanonicalLemmas.{canonical_grows, numbers_decide}
-use Rattle.equation_book.specs.PairView.{pair_of}
+use Rattle.equation_book.specs.PairView.{critical_pair_of}
 use Rattle.equation_book.proofs.JoiningLemmas.{agreeing_alone}
 use Rattle.equation_book.proofs.joining.unjoined_at.Goals as goal
 use Rattle.equation_book.proofs.joining.unjoined_at.Goals.{In_ok-other}
@@ -29,7 +29,7 @@ number-requires-2-clause-term c = c.requires.over.right
 
 pub returns-then-is_one-clause-none : goal.returns-then-is_one-clause-none
 returns-then-is_one-clause-none c =
-    agreeing_alone c.args.rules.now (pair_of c.args.pair.now) (chosen_form c.args.rules.now (term_in c.args.pair.now.left))
+    agreeing_alone c.args.rules.now (critical_pair_of c.args.pair.now) (chosen_form c.args.rules.now (term_in c.args.pair.now.left))
     (chosen_form c.args.rules.now (term_in c.args.pair.now.right)) (rules_have_forms c.args.rules.now (term_in c.args.pair.now.left)).1
     (rules_have_forms c.args.rules.now (term_in c.args.pair.now.right)).1
     ((decided (goal.at.returns-then-is_one-clause-none c).In_ok-other).0 (c.is_one.ensures.0 c.if-is_one.true))

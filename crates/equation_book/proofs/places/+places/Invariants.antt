@@ -1,6 +1,6 @@
 use Rattle.std.proofs.Common.{◌≡◌, ◌+◌, ◌*◌, ◌++◌, drop, map}
 use Rattle.sort_terms.specs.TermSize.{size_of, sizes_of}
-use Rattle.sort_terms.specs.TermView.{terms_of}
+use Rattle.sort_terms.specs.TermView.{bare_terms_of}
 use Rattle.equation_book.specs.NodePlaces.{argument_places}
 use Rattle.equation_book.specs.PairView.{node_place_of}
 use Rattle.equation_book.proofs.places.+places.Given as goal
@@ -13,5 +13,5 @@ decreases-places_among l = 2 * sizes_of l.terms.now.items + 1
 
 abbrev pub invariant-places_among-loop-i : goal.invariant-places_among-loop-i
 invariant-places_among-loop-i l =
-    map node_place_of l.fn.found.items ++ argument_places l.path 0 (terms_of l.terms.items)
-    ≡ map node_place_of l.found.items ++ argument_places l.path l.i (terms_of (drop l.i l.terms.items))
+    map node_place_of l.fn.found.items ++ argument_places l.path 0 (bare_terms_of l.terms.items)
+    ≡ map node_place_of l.found.items ++ argument_places l.path l.i (bare_terms_of (drop l.i l.terms.items))

@@ -5,12 +5,12 @@ use Rattle.sort_terms.specs.TermView.{profiled_of, term_of}
 use Rattle.sort_terms.specs.declared.terms.Term.{Term}
 use Rattle.sort_terms.proofs.BuiltLists.{node_with_items, profiled_Var}
 use Rattle.sort_terms.proofs.CopyLemmas.{made_more}
-use Rattle.sort_terms.proofs.SizeLemmas.{size_node}
+use Rattle.sort_terms.proofs.SizeLemmas.{size_node, size_some}
 use Rattle.sort_terms.specs.TermSize.{profiled_sizes}
 use Rattle.term_match.specs.ProfiledInstance.{profiled_instance}
 use Rattle.event_offers.specs.Rebuilt.{rebuilt_by}
 use Rattle.event_offers.proofs.ChangedLemmas.{instance_of_ground}
-use Rattle.event_offers.proofs.RebuildLemmas.{head_begun, rebuilt_next, size_some, sizes_all, turns_next}
+use Rattle.event_offers.proofs.RebuildLemmas.{head_begun, rebuilt_next, sizes_all, turns_next}
 use Rattle.event_offers.proofs.rebuilding.begin.Goals as goal
 
 pub returns-in_ok-push-in-Var-clause-same : goal.returns-in_ok-push-in-Var-clause-same

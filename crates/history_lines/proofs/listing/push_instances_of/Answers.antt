@@ -6,7 +6,7 @@ use Rattle.session_log.specs.CourseView.{basis_over}
 use Rattle.sort_terms.specs.EquationView.{data_of}
 use Rattle.sort_terms.specs.SignatureView.{signature_of}
 use Rattle.sort_terms.specs.declared.sorted.Sorted.{Sorted}
-use Rattle.value_lists.specs.InstanceList.{lists_of}
+use Rattle.value_lists.specs.InstanceList.{term_lists_of}
 use Rattle.value_lists.specs.ListView.{HasChoices, HasRules}
 use Rattle.value_lists.proofs.AnswerLemmas.{has_choices, more_there}
 use Rattle.history_lines.proofs.ListingLemmas.{book_rules, too_many_added}
@@ -24,10 +24,10 @@ returns-in-Ok-clause-added c = λ menu at.
     (book_rules c.args.book.now c.args.spec.now signature c.requires.shown) in
     c.push_instance_list.ensures.added basis menu c.args.size
     (record { same_data = refl; same_canon = refl; named = ap (map spelling) c.as_slice.ensures.value }) at
-    (subst (λ (lists : List (Vec Sorted Global)). HasChoices basis (plain_entry c.args.entry.now) c.args.size (lists_of lists))
+    (subst (λ (lists : List (Vec Sorted Global)). HasChoices basis (plain_entry c.args.entry.now) c.args.size (term_lists_of lists))
     (sym c.as_slice-in-Ok.ensures.value)
     (has_choices basis signature (plain_rules_in c.rules.result.now) rules (plain_entry c.args.entry.now) c.args.size
-    (lists_of c.in-Ok.choices.items) c.in-Ok.ensures.lists c.in-Ok.ensures.few))
+    (term_lists_of c.in-Ok.choices.items) c.in-Ok.ensures.lists c.in-Ok.ensures.few))
 
 pub returns-in-Err-TooManyValues-clause-added : goal.returns-in-Err-TooManyValues-clause-added
 returns-in-Err-TooManyValues-clause-added c = λ menu at.

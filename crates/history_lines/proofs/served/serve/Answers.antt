@@ -3,7 +3,7 @@ use Rattle.line_server.specs.Request.{Request}
 use Rattle.line_server.specs.RequestLaws.{Carries}
 use Rattle.line_server.specs.RequestView.{wants}
 use Rattle.line_server.proofs.RequestLemmas.{request_within}
-use Rattle.session_log.proofs.ResultLemmas.{gave_up}
+use Rattle.lotos_base.proofs.Options.{gave_up}
 use Rattle.history_lines.specs.LinesView.{point_of}
 use Rattle.history_lines.proofs.ServedLemmas.{appends_reply, appends_nothing, appends_nothing_behind}
 use Rattle.history_lines.proofs.served.serve.Goals as goal

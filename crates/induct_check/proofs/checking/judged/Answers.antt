@@ -1,6 +1,6 @@
 use Rattle.std.proofs.Common.{List, subst, sym}
 use Rattle.std.proofs.lemmas.Result.{IfOk-weaker, IfErr-weaker}
-use Rattle.lotos_base.proofs.ExampleHelpers.{Each}
+use Rattle.lotos_base.proofs.Each.{Each}
 use Rattle.sort_terms.specs.SignatureView.{signature_of}
 use Rattle.induct_parts.specs.SettingView.{IsKnownLemma, known_theory}
 use Rattle.induct_parts.specs.declared.certificates.StatedLemma.{StatedLemma}

@@ -4,7 +4,7 @@ use Rattle.sort_terms.specs.EquationView.{variable_of}
 use Rattle.induct_parts.specs.HandedOn.{IsStated}
 use Rattle.induct_parts.specs.StatementView.{statement_of}
 use Rattle.induct_parts.proofs.Outcomes.{match_none_at, match_some_at}
-use Rattle.induct_check.specs.CertificateReading.{stated}
+use Rattle.induct_check.specs.CertificateReading.{stated_lemma}
 use Rattle.induct_check.specs.KnownView.{known_signature}
 use Rattle.induct_check.proofs.PieceLemmas.{no_right_side, gives_lemma}
 use Rattle.induct_check.proofs.StatedLemmas.{sides_stated}
@@ -27,7 +27,7 @@ returns c =
       gives_lemma signature variables copies (written_term_of c.args.left.now) (written_term_of c.in-Some.right) c.args.term.now statement
           c.in_ok-copies.ensures side sides.0,
       (
-        subst (λ vs. IsStated signature (stated vs statement)) (sym c.in_ok-copies.ensures)
+        subst (λ vs. IsStated signature (stated_lemma vs statement)) (sym c.in_ok-copies.ensures)
             (sides_stated signature variables (written_term_of c.args.left.now) (written_term_of c.in-Some.right) statement
             c.requires.variables sides.0),
         sides.1,

@@ -1,10 +1,10 @@
 use Rattle.std.proofs.Common.{◌+◌, ◌<◌, ◌^◌, ℕ, List, length, map, sym, subst, arith}
 use Rattle.std.proofs.lemmas.List.{length-map}
-use Rattle.lotos_base.proofs.ExampleHelpers.{each_member}
-use Rattle.induct_check.specs.CertificateLines.{form_of}
+use Rattle.lotos_base.proofs.Each.{each_member}
+use Rattle.induct_check.specs.CertificateLines.{line_form_of}
 use Rattle.induct_check.specs.CertificateReading.{nothing_read}
 use Rattle.induct_check.specs.KnownView.{known_signature}
-use Rattle.induct_check.specs.PieceView.{part_in, piece_in}
+use Rattle.induct_check.specs.PieceView.{open_part_in, piece_in}
 use Rattle.induct_check.specs.ReadingView.{reading_in, stopping}
 use Rattle.induct_check.specs.TextFaults.{LinesReadTo, stopped_at}
 use Rattle.induct_check.specs.declared.pieces.LineOutcome.TheVariants as outcome
@@ -23,7 +23,8 @@ returns-in-Nothing-clause-read c =
     let parts = map (λ part. part.now) c.args.parts.now in
     let line = c.part_at-line.result.now in
     let reading = c.loop-number.reading in
-    let h = over_covers signature c.as_slice-covers.result.now reading.certificate.covers.items (part_in reading.part) (form_of line)
+    let h =
+    over_covers signature c.as_slice-covers.result.now reading.certificate.covers.items (open_part_in reading.part) (line_form_of line)
     c.in_ok-piece.field-0 outcome.Nothing c.as_slice-covers.ensures.value c.in-Nothing.is c.in_ok-piece.ensures in
     subst (λ text. LinesReadTo signature 1 nothing_read parts text) (sym c.stopped_at.ensures)
     (c.loop-number.invariant.comes (stopped_at (reading_in reading) (c.loop-number.number + 1) line)
@@ -37,7 +38,8 @@ returns-in-WithLeft-clause-read c =
     let parts = map (λ part. part.now) c.args.parts.now in
     let line = c.part_at-line.result.now in
     let reading = c.loop-number.reading in
-    let h = over_covers signature c.as_slice-covers.result.now reading.certificate.covers.items (part_in reading.part) (form_of line)
+    let h =
+    over_covers signature c.as_slice-covers.result.now reading.certificate.covers.items (open_part_in reading.part) (line_form_of line)
     c.in_ok-piece.field-0 outcome.WithLeft c.as_slice-covers.ensures.value c.in-WithLeft.is c.in_ok-piece.ensures in
     subst (λ text. LinesReadTo signature 1 nothing_read parts text) (sym c.stopped_at-in-WithLeft.ensures)
     (c.loop-number.invariant.comes (stopped_at (reading_in reading) c.loop-number.number line)
@@ -51,7 +53,8 @@ loop-number-preserved c =
     let parts = map (λ part. part.now) c.args.parts.now in
     let line = c.part_at-line.result.now in
     let reading = c.loop-number.reading in
-    let h = over_covers signature c.as_slice-covers.result.now reading.certificate.covers.items (part_in reading.part) (form_of line)
+    let h =
+    over_covers signature c.as_slice-covers.result.now reading.certificate.covers.items (open_part_in reading.part) (line_form_of line)
     c.in_ok-piece.field-0 (outcome.Piece c.in-Piece.piece) c.as_slice-covers.ensures.value c.in-Piece.is c.in_ok-piece.ensures in
     record {
       comes = λ text rest. c.loop-number.invariant.comes text

@@ -1,6 +1,6 @@
 use Rattle.std.proofs.Common.{◌+◌, ◌<◌, ◌^◌, List, ℕ, length, map, ap, sym, ◌∙◌, subst}
 use Rattle.std.proofs.lemmas.List.{length-map}
-use Rattle.lotos_base.proofs.ExampleHelpers.{Each}
+use Rattle.lotos_base.proofs.Each.{Each}
 use Rattle.induct_check.proofs.FewLines.{some_parts}
 use Rattle.induct_check.proofs.ShortParts.{short_parts}
 use Rattle.induct_check.proofs.reading.read_certificate.Goals as goal

@@ -36,4 +36,4 @@ returns-clause-known g c =
     (same_case (case_in point) (first_case theory (lemma_in c.args.lemma.now)) (c.in_ok-sorts.ensures.items ∙ c.as_slice.ensures.value)
     (c.in_ok-gone.ensures ∙ ap (absent_from (statement_of c.args.lemma.now.statement) 0) c.as_slice-2.ensures.value)
     (ap (map statement_of) c.new.ensures.items) c.in_ok-goal.ensures.made)
-    c.new.ensures.items c.in_ok-goal.ensures.over
+    c.new.ensures.items (c.in_ok-goal.ensures.over _ c.requires.set.signature)

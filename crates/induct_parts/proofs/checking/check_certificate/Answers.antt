@@ -1,6 +1,6 @@
 use Rattle.std.proofs.Common.{ℕ, [], sym, subst}
 use Rattle.std.proofs.lemmas.Result.{IfOk-weaker, IfErr-weaker}
-use Rattle.lotos_base.proofs.ExampleHelpers.{Each}
+use Rattle.lotos_base.proofs.Each.{Each}
 use Rattle.lotos_base.specs.Signature.{Operation, IsOperation, IsWellFormedSignature}
 use Rattle.certificate_theory.specs.Certified.{IsInductionFault, IsRightLemma, IsWrongLemma, lines_of_lemma}
 use Rattle.certificate_theory.specs.Lines.{FirstIsWrong}

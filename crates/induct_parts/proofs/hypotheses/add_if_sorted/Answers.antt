@@ -15,11 +15,11 @@ overflow_add-argument c = omega (arith, c.requires.room, c.requires.within, c.le
 
 pub with_argument-requires-clause-sort : goal.with_argument-requires-clause-sort
 with_argument-requires-clause-sort c =
-    put_result_sort c.args.setting.now c.args.proving.now c.args.point.now c.args.put.now c.requires.put
+    put_result_sort c.args.setting.now c.args.point.now c.args.put.now c.requires.put
 
 pub with_argument-requires-clause-one_sort : goal.with_argument-requires-clause-one_sort
 with_argument-requires-clause-one_sort c =
-    put_in_goal c.args.setting.now c.args.proving.now c.args.point.now c.args.put.now c.requires.put c.requires.known
+    put_in_goal c.args.setting.now c.args.point.now c.args.put.now c.requires.put c.requires.known.0 c.requires.known.1
 
 pub returns-then-sort-put-clause-added : goal.returns-then-sort-put-clause-added
 returns-then-sort-put-clause-added c =

@@ -13,7 +13,7 @@ loop-i-init c = record {
       (length c.args.point.now.sorts.items) c.as_slice-arguments.result.now c.in_ok-made.made.items c.args.point.now.hypotheses.items
       c.in_ok-made.ensures;
   over = copies_over (setting_signature c.args.setting.now) c.in_ok-made.made.items c.args.point.now.hypotheses.items
-      c.in_ok-made.ensures c.requires.known.hypotheses;
+      c.in_ok-made.ensures c.requires.known.1.hypotheses;
 }
 
 pub add_if_sorted-requires-clause-within : goal.add_if_sorted-requires-clause-within

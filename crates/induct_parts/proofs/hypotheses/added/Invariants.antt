@@ -1,5 +1,5 @@
 use Rattle.std.proofs.Common.{◌++◌, map, length}
-use Rattle.lotos_base.proofs.ExampleHelpers.{Each}
+use Rattle.lotos_base.proofs.Each.{Each}
 use Rattle.certificate_theory.specs.Splits.{hypotheses_for}
 use Rattle.induct_parts.specs.StatementView.{IsStatementOf, statement_of}
 use Rattle.induct_parts.specs.SettingView.{setting_signature}

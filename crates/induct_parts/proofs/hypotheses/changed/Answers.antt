@@ -1,7 +1,7 @@
 use Rattle.std.proofs.Common.{◌<◌, ◌++◌, ◌∷◌, ℕ, List, [], length, map, get_or, ap, sym, ◌∙◌, subst, refl}
 use Rattle.std.proofs.lemmas.Option.{slice_get_read}
-use Rattle.lotos_base.proofs.ExampleHelpers.{Each, each_member}
 use Rattle.lotos_base.specs.Substitution.{substituted}
+use Rattle.lotos_base.proofs.Each.{Each, each_member}
 use Rattle.sort_terms.specs.SortedView.{term_in}
 use Rattle.certificate_theory.specs.InductionCertificate.{Statement as PlainStatement}
 use Rattle.certificate_theory.specs.Patterns.{put_for}
@@ -15,7 +15,7 @@ use Rattle.induct_parts.proofs.hypotheses.changed.Goals as goal
 
 pub put_for-requires : goal.put_for-requires
 put_for-requires c =
-    put_in_hypothesis c.args.setting.now c.args.proving.now c.args.point.now c.args.put.now c.requires.put c.requires.known
+    put_in_hypothesis c.args.setting.now c.args.point.now c.args.put.now c.requires.put c.requires.known.0 c.requires.known.1
     c.loop-number.number c.index-hypotheses-number.result
     (subst (λ hs. c.loop-number.number < length hs) c.as_slice-hypotheses.ensures.value c.loop-number-test.true)
     (c.index-hypotheses-number.is
@@ -34,17 +34,17 @@ loop-number-preserved c =
           ∙ ap (λ (s : PlainStatement). map statement_of c.loop-number.made.items ++ s ∷ [])
           (c.in_ok-hypothesis.ensures.made
           ∙ ap (λ k. f k (statement_of h))
-          (put_sort c.args.setting.now c.args.proving.now c.args.point.now put c.requires.put)))
+          (put_sort c.args.setting.now c.args.point.now put c.requires.put)))
           c.loop-number.invariant.so_far;
       over = each_pushed (IsStatementOf (setting_signature c.args.setting.now)) c.loop-number.made.items c.push.new.self.items
           c.in_ok-hypothesis.hypothesis c.in_ok-push.ensures.items
           (c.in_ok-hypothesis.ensures.over (setting_signature c.args.setting.now)
           (each_member (IsStatementOf (setting_signature c.args.setting.now)) c.as_slice-hypotheses.result.now c.loop-number.number h
           (subst (Each (IsStatementOf (setting_signature c.args.setting.now))) (sym c.as_slice-hypotheses.ensures.value)
-          c.requires.known.hypotheses)
+          c.requires.known.1.hypotheses)
           (slice_get_read c.as_slice-hypotheses.result.now (length c.as_slice-hypotheses.result.now) c.loop-number.number h refl
           c.loop-number-test.true c.index-hypotheses-number.is))
-          (put_over c.args.setting.now c.args.proving.now c.args.point.now put c.requires.put))
+          (put_over c.args.setting.now c.args.point.now put c.requires.put))
           c.loop-number.invariant.over;
     }
 

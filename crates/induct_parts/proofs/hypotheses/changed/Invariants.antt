@@ -1,5 +1,5 @@
 use Rattle.std.proofs.Common.{◌≡◌, ◌++◌, map, drop}
-use Rattle.lotos_base.proofs.ExampleHelpers.{Each}
+use Rattle.lotos_base.proofs.Each.{Each}
 use Rattle.lotos_base.specs.Substitution.{substituted}
 use Rattle.sort_terms.specs.SortedView.{term_in}
 use Rattle.certificate_theory.specs.Patterns.{put_for}

@@ -2,9 +2,10 @@ use Rattle.std.proofs.Common.{◌≡◌, ◌≤◌, length, refl, arith}
 use Rattle.std.proofs.lemmas.List.{length-map}
 use Rattle.std.proofs.lemmas.Option.{slice_get_read, slice_get_within}
 use Rattle.lotos_base.proofs.Members.{at_map}
+use Rattle.certificate_theory.proofs.TestedCertificates.{complete_of}
 use Rattle.sort_terms.specs.SignatureView.{signature_of}
 use Rattle.induct_parts.specs.CertificateView.{cover_in, covers_in, trees_in}
-use Rattle.induct_parts.proofs.LackLemmas.{complete, covers_more, first_lack_is}
+use Rattle.induct_parts.proofs.LackLemmas.{covers_more, first_lack_is}
 use Rattle.induct_parts.proofs.lacks.first_lack.Goals as goal
 
 pub returns-in-Some : goal.returns-in-Some
@@ -20,7 +21,7 @@ returns-in-Some c = (
 
 pub returns : goal.returns
 returns c =
-    complete (signature_of c.args.signature.now) (covers_in c.args.covers.now) (trees_in c.args.trees.now)
+    complete_of (signature_of c.args.signature.now) (covers_in c.args.covers.now) (trees_in c.args.trees.now)
     (λ i g cover at.
     let within = slice_get_within (covers_in c.args.covers.now) i cover at in
     let same : length (covers_in c.args.covers.now) ≡ length c.args.covers.now = length-map c.args.covers.now cover_in in

@@ -6,7 +6,7 @@ use Rattle.certificate_theory.specs.Certified.{statements_of}
 use Rattle.certificate_theory.specs.Faults.{bad_line}
 use Rattle.certificate_theory.specs.Lines.{DealsWith, FailsToDeal}
 use Rattle.certificate_theory.specs.Proofs.{CaseComesTo, IsWrongAtCase}
-use Rattle.induct_parts.specs.FaultView.{HoldsOfFault, FromLine}
+use Rattle.induct_parts.specs.FaultView.{HoldsOfLineFault, FromLine}
 use Rattle.induct_parts.specs.CaseView.{case_in, IsKnownCase}
 use Rattle.induct_parts.specs.CertificateView.{lemma_in, lemmas_in, proof_line_of}
 use Rattle.induct_parts.specs.SettingView.{setting_signature, setting_covers, theory_in, IsSet}
@@ -52,7 +52,7 @@ returns-clause-wrong g c =
     (map proof_line_of c.as_slice.result.now) c.args.begin at.line at.fault
     (ap (λ (n : ℕ). record { earlier = statements_of earlier; free = n }) (c.len.ensures ∙ c.args.lemma.now.variables.ok.0))
     c.in_ok-point.ensures.first (ap (map proof_line_of) c.as_slice.ensures.value)
-    (held_before (λ (d : Data) (k : Term → Term). HoldsOfFault (FromLine (c.args.begin + 3) (FailsToDeal
+    (held_before (λ (d : Data) (k : Term → Term). HoldsOfLineFault (FromLine (c.args.begin + 3) (FailsToDeal
     (CaseComesTo (theory_in c.args.setting.now d k) (setting_covers c.args.setting.now)
     (record { earlier = statements_of earlier; free = c.len.result }))
     (IsWrongAtCase (theory_in c.args.setting.now d k) (setting_covers c.args.setting.now)

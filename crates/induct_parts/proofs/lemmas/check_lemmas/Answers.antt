@@ -1,11 +1,11 @@
 use Rattle.std.proofs.Common.{◌≡◌, ◌+◌, ℕ, [], length, take, refl, ap, sym, ◌∙◌, arith}
 use Rattle.std.proofs.lemmas.Option.{slice_get_read}
-use Rattle.lotos_base.proofs.ExampleHelpers.{each_member}
+use Rattle.lotos_base.proofs.Each.{each_member}
 use Rattle.lotos_base.specs.Equation.{Data}
 use Rattle.lotos_base.specs.Term.{Term}
 use Rattle.certificate_theory.specs.Certified.{IsRightLemma, IsWrongLemma, lines_of_lemma}
 use Rattle.induct_parts.specs.CertificateView.{lemma_in, lemmas_in}
-use Rattle.induct_parts.specs.FaultView.{HoldsOfFault, HoldsAtLine, FromLine}
+use Rattle.induct_parts.specs.FaultView.{HoldsOfLineFault, HoldsAtLine, FromLine}
 use Rattle.induct_parts.specs.SettingView.{setting_signature, setting_covers, theory_in, IsSet, IsKnownLemma}
 use Rattle.induct_parts.proofs.DataLemmas.{held_then, held_before}
 use Rattle.certificate_theory.specs.Lines.{FirstIsWrong}
@@ -58,7 +58,8 @@ returns-in_err-check_lemma-clause-wrong g c =
     c.from_residual.result at c.from_residual.ensures.1
     (thing_wrong (IsRightLemma theory covers) (IsWrongLemma theory covers) lines_of_lemma lemma_in c.args.begin c.args.lemmas.now
     c.loop-number.number c.loop-number.line at.line c.index-lemmas-number.result at.fault c.loop-number-test.true c.index-lemmas-number.is
-    (held_before (λ (d : Data) (k : Term → Term). HoldsOfFault (FromLine c.loop-number.line (IsWrongLemma (theory_in c.args.setting.now d k)
+    (held_before (λ (d : Data) (k : Term → Term). HoldsOfLineFault
+    (FromLine c.loop-number.line (IsWrongLemma (theory_in c.args.setting.now d k)
     covers (lemmas_in (take c.loop-number.number c.args.lemmas.now)) (lemma_in c.index-lemmas-number.result)) at.line) at.fault)
     c.loop-number.invariant.same_data c.loop-number.invariant.same_canon c.in_err-check_lemma.ensures.wrong)
     c.loop-number.invariant.so_far)

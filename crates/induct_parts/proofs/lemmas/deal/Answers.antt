@@ -1,17 +1,18 @@
 use Rattle.std.proofs.Common.{◌≡◌, ◌≤◌, ◌<◌, ◌+◌, List, [], ◌∷◌, map, reverse, length, ap, sym, ◌∙◌, subst, refl, arith}
-use Rattle.lotos_base.proofs.ExampleHelpers.{Each}
+use Rattle.lotos_base.proofs.Each.{Each}
 use Rattle.lotos_base.specs.Equation.{Data}
 use Rattle.lotos_base.specs.Term.{Term}
 use Rattle.induct_parts.specs.CaseView.{case_in, cases_in, IsKnownCase}
 use Rattle.induct_parts.specs.CertificateView.{proof_line_of}
-use Rattle.induct_parts.specs.FaultView.{HoldsOfFault}
+use Rattle.induct_parts.specs.FaultView.{HoldsOfLineFault}
 use Rattle.induct_parts.specs.SettingView.{setting_signature, setting_covers, theory_in, proving_in, IsSet}
 use Rattle.certificate_theory.specs.InductionCertificate.{ProofLine as PlainLine}
 use Rattle.certificate_theory.specs.Faults.{bad_line}
 use Rattle.certificate_theory.specs.Lines.{LinesReach, FailsToDeal}
 use Rattle.certificate_theory.specs.Proofs.{CaseComesTo, IsWrongAtCase}
+use Rattle.sort_terms.proofs.SizeLemmas.{no_members}
 use Rattle.induct_parts.proofs.DataLemmas.{held_then, held_before}
-use Rattle.induct_parts.proofs.LineSteps.{deal_begins, deal_goes_on, deal_ends, deal_wrong, deal_missing, pushed_alone, some_left, stack_none, stack_some}
+use Rattle.induct_parts.proofs.LineSteps.{deal_begins, deal_goes_on, deal_ends, deal_wrong, deal_missing, pushed_alone, some_left, stack_some}
 use Rattle.induct_parts.proofs.lemmas.deal.Goals as goal
 
 pub loop-number-init : goal.loop-number-init
@@ -61,7 +62,7 @@ returns-in-Err-clause-wrong g c =
     c.args.lines.now c.loop-number.number c.args.begin (c.args.begin + c.loop-number.number)
     (cases_in (reverse c.loop-number.left.items)) c.index-lines-number.result c.in-Err.fault c.loop-number-test.true
     c.index-lines-number.is
-    (held_before (λ (d : Data) (k : Term → Term). (rest : List PlainLine) → HoldsOfFault (FailsToDeal
+    (held_before (λ (d : Data) (k : Term → Term). (rest : List PlainLine) → HoldsOfLineFault (FailsToDeal
     (CaseComesTo (theory_in c.args.setting.now d k) (setting_covers c.args.setting.now) (proving_in c.args.proving.now))
     (IsWrongAtCase (theory_in c.args.setting.now d k) (setting_covers c.args.setting.now) (proving_in c.args.proving.now)) bad_line
     (cases_in (reverse c.loop-number.left.items)) (proof_line_of c.index-lines-number.result ∷ rest) 0) c.in-Err.fault)
@@ -86,7 +87,7 @@ returns-then-not-is_empty-clause-wrong g c =
 pub returns-clause-right : goal.returns-clause-right
 returns-clause-right g c =
     let theory = theory_in c.args.setting.now (g.D.Deciding.known_data c.args.data_.now) (g.D.Deciding.canon c.args.data_.now) in
-    let none = stack_none c.loop-number.left.items c.loop-number.left.len c.is_empty.result c.loop-number.left.ok.0 c.is_empty.ensures
+    let none = no_members c.loop-number.left.items c.loop-number.left.len c.is_empty.result c.loop-number.left.ok.0 c.is_empty.ensures
     (cc c.if-not-is_empty.false) in
     deal_ends (CaseComesTo theory (setting_covers c.args.setting.now) (proving_in c.args.proving.now))
     (IsWrongAtCase theory (setting_covers c.args.setting.now) (proving_in c.args.proving.now)) proof_line_of (case_in c.args.first ∷ [])

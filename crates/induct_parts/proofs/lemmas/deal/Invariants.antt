@@ -1,5 +1,5 @@
 use Rattle.std.proofs.Common.{◌≡◌, [], ◌∷◌, reverse}
-use Rattle.lotos_base.proofs.ExampleHelpers.{Each}
+use Rattle.lotos_base.proofs.Each.{Each}
 use Rattle.certificate_theory.specs.Proofs.{CaseComesTo, IsWrongAtCase}
 use Rattle.induct_parts.specs.CaseView.{IsKnownCase, case_in, cases_in}
 use Rattle.induct_parts.specs.CertificateView.{proof_line_of}

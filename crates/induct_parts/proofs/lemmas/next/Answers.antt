@@ -7,7 +7,7 @@ use Rattle.certificate_theory.specs.Proofs.{CaseComesTo, IsWrongAtCase}
 use Rattle.certificate_theory.specs.InductionCertificate.{ProofLine}
 use Rattle.certificate_theory.specs.Faults.{bad_line}
 use Rattle.certificate_theory.specs.Lines.{FailsToDeal}
-use Rattle.induct_parts.specs.FaultView.{HoldsOfFault}
+use Rattle.induct_parts.specs.FaultView.{HoldsOfLineFault}
 use Rattle.induct_parts.specs.declared.line_fault.LineFault.{LineFault}
 use Rattle.induct_parts.proofs.Outcomes.{handed_on}
 use Rattle.induct_parts.proofs.LineSteps.{next_reach, next_known, next_wrong, next_surplus, top_known}
@@ -29,7 +29,7 @@ returns-in_default-clause-wrong g c =
 pub returns-in_err-parts-clause-wrong : goal.returns-in_err-parts-clause-wrong
 returns-in_err-parts-clause-wrong g c =
     let theory = theory_in c.args.setting.now (g.D.Deciding.known_data c.args.data_.now) (g.D.Deciding.canon c.args.data_.now) in
-    handed_on (λ (fault : LineFault). (rest : List ProofLine) → HoldsOfFault (FailsToDeal (CaseComesTo theory
+    handed_on (λ (fault : LineFault). (rest : List ProofLine) → HoldsOfLineFault (FailsToDeal (CaseComesTo theory
     (setting_covers c.args.setting.now) (proving_in c.args.proving.now))
     (IsWrongAtCase theory (setting_covers c.args.setting.now) (proving_in c.args.proving.now)) bad_line
     (map case_in (reverse c.args.left.now.items)) (proof_line_of c.args.line.now ∷ rest) 0) fault)

@@ -4,7 +4,7 @@ use Rattle.certificate_theory.specs.InductionCertificate.{ProofLine as PlainLine
 use Rattle.certificate_theory.specs.Proofs.{CaseComesTo, IsWrongAtCase}
 use Rattle.induct_parts.specs.CaseView.{case_in, cases_in}
 use Rattle.induct_parts.specs.CertificateView.{proof_line_of}
-use Rattle.induct_parts.specs.FaultView.{HoldsOfFault}
+use Rattle.induct_parts.specs.FaultView.{HoldsOfLineFault}
 use Rattle.induct_parts.specs.SettingView.{setting_covers, theory_in, proving_in}
 use Rattle.induct_parts.proofs.lemmas.proof_line.Goals as goal
 
@@ -18,7 +18,7 @@ returns-in-Split-clause-comes g c =
 pub returns-in-Split-clause-wrong : goal.returns-in-Split-clause-wrong
 returns-in-Split-clause-wrong g c =
     let theory = theory_in c.args.setting.now (g.D.Deciding.known_data c.args.data_.now) (g.D.Deciding.canon c.args.data_.now) in
-    subst (λ (l : PlainLine). IfErr c.split.result (λ fault. HoldsOfFault (IsWrongAtCase theory (setting_covers c.args.setting.now)
+    subst (λ (l : PlainLine). IfErr c.split.result (λ fault. HoldsOfLineFault (IsWrongAtCase theory (setting_covers c.args.setting.now)
     (proving_in c.args.proving.now) (case_in c.args.point.now) l) fault))
     (sym (ap proof_line_of c.in-Split.is)) c.split.ensures.wrong
 
@@ -32,7 +32,7 @@ returns-in-Use-clause-comes g c =
 pub returns-in-Use-clause-wrong : goal.returns-in-Use-clause-wrong
 returns-in-Use-clause-wrong g c =
     let theory = theory_in c.args.setting.now (g.D.Deciding.known_data c.args.data_.now) (g.D.Deciding.canon c.args.data_.now) in
-    subst (λ (l : PlainLine). IfErr c.use_line.result (λ fault. HoldsOfFault (IsWrongAtCase theory (setting_covers c.args.setting.now)
+    subst (λ (l : PlainLine). IfErr c.use_line.result (λ fault. HoldsOfLineFault (IsWrongAtCase theory (setting_covers c.args.setting.now)
     (proving_in c.args.proving.now) (case_in c.args.point.now) l) fault))
     (sym (ap proof_line_of c.in-Use.is)) c.use_line.ensures.wrong
 
@@ -47,6 +47,6 @@ returns-in-Same-clause-comes g c =
 pub returns-in-Same-clause-wrong : goal.returns-in-Same-clause-wrong
 returns-in-Same-clause-wrong g c =
     let theory = theory_in c.args.setting.now (g.D.Deciding.known_data c.args.data_.now) (g.D.Deciding.canon c.args.data_.now) in
-    subst (λ (l : PlainLine). IfErr c.end.result (λ fault. HoldsOfFault (IsWrongAtCase theory (setting_covers c.args.setting.now)
+    subst (λ (l : PlainLine). IfErr c.end.result (λ fault. HoldsOfLineFault (IsWrongAtCase theory (setting_covers c.args.setting.now)
     (proving_in c.args.proving.now) (case_in c.args.point.now) l) fault))
     (sym (ap proof_line_of c.in-Same.is)) c.end.ensures.wrong

@@ -1,6 +1,7 @@
 use Rattle.std.proofs.Common.{◌++◌, ◌∷◌, [], List, refl, ap, sym, ◌∙◌, subst}
-use Rattle.lotos_base.proofs.ExampleHelpers.{Each}
+use Rattle.lotos_base.proofs.Each.{Each}
 use Rattle.lotos_base.specs.Equation.{Data}
+use Rattle.lotos_base.specs.Signature.{Signature}
 use Rattle.lotos_base.specs.Term.{Term}
 use Rattle.certificate_theory.specs.InductionCertificate.{Statement as PlainStatement}
 use Rattle.certificate_theory.specs.Uses.{IsUsed}
@@ -23,10 +24,11 @@ returns-in_default-clause-wrong g c = (
   refl,
 )
 
-pub normal_both-requires-clause-over : goal.normal_both-requires-clause-over
-normal_both-requires-clause-over g c =
-    if_some_at (IsStatementOf (setting_signature c.args.setting.now)) c.in_ok-made.field-0 c.in-Some.made c.in-Some.is
-    c.in_ok-made.ensures.over
+pub normal_both-requires : goal.normal_both-requires
+normal_both-requires g c =
+    subst (λ (s : Signature). IsStatementOf s c.in-Some.made) c.requires.set.signature
+    (if_some_at (IsStatementOf (setting_signature c.args.setting.now)) c.in_ok-made.field-0 c.in-Some.made c.in-Some.is
+    c.in_ok-made.ensures.over)
 
 pub returns-clause-comes : goal.returns-clause-comes
 returns-clause-comes g c =
@@ -71,7 +73,7 @@ returns-clause-known g c =
           (used_is theory c.args.point.now part (statement_of c.in-Some.made)
           (c.in_ok-sorts.ensures.items ∙ c.as_slice.ensures.value) (c.in_ok-gone.ensures.items ∙ c.as_slice-2.ensures.value)
           c.in_ok-hypotheses.ensures c.in_ok-goal.ensures.made)
-          c.in_ok-goal.ensures.over
+          (c.in_ok-goal.ensures.over _ c.requires.set.signature)
           (copies_over signature c.in_ok-hypotheses.hypotheses.items c.args.point.now.hypotheses.items c.in_ok-hypotheses.ensures
           c.requires.known.hypotheses),
       tt,

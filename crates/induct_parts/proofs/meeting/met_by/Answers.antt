@@ -1,6 +1,6 @@
 use Rattle.std.proofs.Common.{length, refl}
 use Rattle.std.proofs.lemmas.Option.{slice_get_read}
-use Rattle.lotos_base.proofs.ExampleHelpers.{each_member}
+use Rattle.lotos_base.proofs.Each.{each_member}
 use Rattle.sort_terms.specs.EquationView.{equation_of}
 use Rattle.induct_parts.specs.SettingView.{IsKnownLemma}
 use Rattle.induct_parts.proofs.MeetingLemmas.{met_here, none_more, none_at_all}

@@ -1,4 +1,4 @@
-use Rattle.lotos_base.proofs.ExampleHelpers.{Each}
+use Rattle.lotos_base.proofs.Each.{Each}
 use Rattle.certificate_theory.specs.Patterns.{split_with, split_patterns}
 use Rattle.induct_parts.specs.CaseView.{IsKnownPattern, pattern_in, patterns_in}
 use Rattle.induct_parts.specs.SettingView.{setting_signature}

@@ -3,7 +3,7 @@ use Rattle.certificate_theory.specs.InductionCertificate.{TreeLine as PlainLine,
 use Rattle.certificate_theory.specs.Patterns.{PatternComesTo, IsWrongAtPattern}
 use Rattle.induct_parts.specs.CaseView.{pattern_in, patterns_in}
 use Rattle.induct_parts.specs.CertificateView.{tree_line_of}
-use Rattle.induct_parts.specs.FaultView.{HoldsOfFault}
+use Rattle.induct_parts.specs.FaultView.{HoldsOfLineFault}
 use Rattle.induct_parts.specs.SettingView.{setting_signature, setting_rules, setting_covers}
 use Rattle.induct_parts.proofs.patterns.pattern_line.Goals as goal
 
@@ -15,7 +15,7 @@ returns-in-Split-clause-comes c =
 
 pub returns-in-Split-clause-wrong : goal.returns-in-Split-clause-wrong
 returns-in-Split-clause-wrong c =
-    subst (λ (l : PlainLine). IfErr c.split.result (λ fault. HoldsOfFault (IsWrongAtPattern (setting_rules c.args.setting.now)
+    subst (λ (l : PlainLine). IfErr c.split.result (λ fault. HoldsOfLineFault (IsWrongAtPattern (setting_rules c.args.setting.now)
     (setting_covers c.args.setting.now) (pattern_in c.args.pattern.now) l) fault))
     (ap split_pattern c.as_slice.ensures.value ∙ sym (ap tree_line_of c.in-Split.is)) c.split.ensures.wrong
 
@@ -27,6 +27,6 @@ returns-in-Leaf-clause-comes c =
 
 pub returns-in-Leaf-clause-wrong : goal.returns-in-Leaf-clause-wrong
 returns-in-Leaf-clause-wrong c =
-    subst (λ (l : PlainLine). IfErr c.leaf.result (λ fault. HoldsOfFault (IsWrongAtPattern (setting_rules c.args.setting.now)
+    subst (λ (l : PlainLine). IfErr c.leaf.result (λ fault. HoldsOfLineFault (IsWrongAtPattern (setting_rules c.args.setting.now)
     (setting_covers c.args.setting.now) (pattern_in c.args.pattern.now) l) fault))
     (sym (ap tree_line_of c.in-Leaf.is)) c.leaf.ensures.wrong

@@ -3,7 +3,7 @@ use Rattle.std.specs.Prelude.{None}
 use Rattle.std.proofs.lemmas.Result.{IfOk-weaker, IfErr-weaker}
 use Rattle.lotos_base.specs.Term.{variable}
 use Rattle.sort_terms.specs.SortedView.{term_in}
-use Rattle.certificate_theory.proofs.ArgumentLemmas.{part_occurs}
+use Rattle.rewriting_theory.proofs.OverlapLemmas.{subterm_occurs}
 use Rattle.certificate_theory.specs.InductionCertificate.{split_pattern}
 use Rattle.certificate_theory.specs.Covers.{cover_of}
 use Rattle.certificate_theory.specs.Faults.{no_cover}
@@ -15,7 +15,8 @@ use Rattle.induct_parts.proofs.patterns.split.Goals as goal
 
 pub split_of-requires-clause-occurs : goal.split_of-requires-clause-occurs
 split_of-requires-clause-occurs c =
-    part_occurs c.args.path.now (term_in c.args.pattern.now.term) (variable c.in-Some.number c.in-Some.sort) c.in-Some.number c.in-Some.sort
+    subterm_occurs c.args.path.now (term_in c.args.pattern.now.term)
+    (variable c.in-Some.number c.in-Some.sort) c.in-Some.number c.in-Some.sort
     c.in-Some.ensures (refl, refl)
 
 pub returns-in-Some-clause-comes : goal.returns-in-Some-clause-comes

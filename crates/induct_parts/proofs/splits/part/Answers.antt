@@ -1,9 +1,10 @@
-use Rattle.std.proofs.Common.{◌∷◌, ◌++◌, ℕ, List, ap, ◌∙◌, arith}
-use Rattle.lotos_base.specs.Signature.{Operation}
+use Rattle.std.proofs.Common.{◌∷◌, ◌++◌, ℕ, List, ap, ◌∙◌, subst, arith}
+use Rattle.lotos_base.specs.Signature.{Signature, Operation}
 use Rattle.sort_terms.specs.Operations.{operation_of}
 use Rattle.certificate_theory.specs.Splits.{IsInScope}
 use Rattle.induct_parts.specs.CaseView.{case_in}
 use Rattle.induct_parts.specs.SettingView.{setting_signature}
+use Rattle.induct_parts.specs.StatementView.{IsStatementOf}
 use Rattle.induct_parts.specs.declared.cases.Case.{Case}
 use Rattle.induct_parts.proofs.OperationFacts.{for_operation, operation_within, operation_read, joined_room}
 use Rattle.induct_parts.proofs.PartSteps.{on_new, new_in_goal, new_over, made_part_for, made_part_known}
@@ -51,13 +52,14 @@ put_for-requires g c =
     (on_new c.args.point.now c.args.operation c.len.result op c.in_ok-term.term (c.len.ensures ∙ c.args.point.now.sorts.ok.0)
     c.in_ok-term.ensures)
 
-pub normal_both-requires-clause-over : goal.normal_both-requires-clause-over
-normal_both-requires-clause-over g c =
+pub normal_both-requires : goal.normal_both-requires
+normal_both-requires g c =
     let op = c.index-ops-operation.result in
     let signature = c.args.setting.now.signature.now in
     let within = operation_within signature c.ops.result.now c.args.operation c.requires.scope.0 c.ops.ensures c.requires.scope.1 in
     let read = operation_read signature c.ops.result.now c.args.operation op c.ops.ensures within c.index-ops-operation.is in
-    c.in_ok-with_term.ensures.over (setting_signature c.args.setting.now) c.requires.known.goal
+    subst (λ (s : Signature). IsStatementOf s c.in_ok-with_term.with_term) c.requires.set.signature
+    (c.in_ok-with_term.ensures.over (setting_signature c.args.setting.now) c.requires.known.goal
     (new_over c.args.setting.now c.args.proving.now c.args.point.now c.args.number c.args.operation op c.in_ok-term.term
     c.requires.known
     (for_operation (setting_signature c.args.setting.now) c.args.operation
@@ -65,7 +67,7 @@ normal_both-requires-clause-over g c =
     c.requires.scope.2 (operation_of op) read)
     read
     (on_new c.args.point.now c.args.operation c.len.result op c.in_ok-term.term (c.len.ensures ∙ c.args.point.now.sorts.ok.0)
-    c.in_ok-term.ensures))
+    c.in_ok-term.ensures)))
 
 pub returns-clause-made : goal.returns-clause-made
 returns-clause-made g c =
@@ -116,4 +118,4 @@ returns-clause-known g c =
     (c.in_ok-sorts.ensures ∙ (λ i. c.as_slice.ensures.value i ++ c.as_slice-2.ensures.value i))
     (c.in_ok-gone.ensures ∙ ap (λ (ns : List ℕ). c.args.number ∷ ns) c.as_slice-3.ensures.value)
     c.in_ok-hypotheses.ensures.behind c.in_ok-with_term.ensures.made c.in_ok-goal.ensures.made c.requires.set
-    c.in_ok-goal.ensures.over c.in_ok-hypotheses.ensures.over
+    (c.in_ok-goal.ensures.over _ c.requires.set.signature) c.in_ok-hypotheses.ensures.over

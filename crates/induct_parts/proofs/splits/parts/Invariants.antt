@@ -1,5 +1,5 @@
 use Rattle.std.proofs.Common.{◌≡◌}
-use Rattle.lotos_base.proofs.ExampleHelpers.{Each}
+use Rattle.lotos_base.proofs.Each.{Each}
 use Rattle.certificate_theory.specs.Splits.{case_with, cases_of_split}
 use Rattle.induct_parts.specs.CaseView.{IsKnownCase, case_in, cases_in}
 use Rattle.induct_parts.specs.SettingView.{proving_in, setting_signature, theory_in}

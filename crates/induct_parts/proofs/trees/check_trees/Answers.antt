@@ -1,7 +1,7 @@
 use Rattle.std.proofs.Common.{◌≡◌, ◌+◌, ℕ, [], length, refl, ap, sym, ◌∙◌, subst, arith}
 use Rattle.std.proofs.lemmas.List.{length-map}
 use Rattle.std.proofs.lemmas.Option.{slice_get_read}
-use Rattle.lotos_base.proofs.ExampleHelpers.{each_member}
+use Rattle.lotos_base.proofs.Each.{each_member}
 use Rattle.lotos_base.specs.Signature.{Operation, IsOperation}
 use Rattle.certificate_theory.specs.Certified.{IsRightTree, IsWrongTree, lines_of_tree}
 use Rattle.induct_parts.specs.CertificateView.{cover_in, tree_in, trees_in}

@@ -1,10 +1,11 @@
 use Rattle.std.proofs.Common.{◌≡◌, ◌≤◌, ◌<◌, ◌+◌, [], ◌∷◌, map, reverse, length, ap, sym, subst, refl, arith}
-use Rattle.lotos_base.proofs.ExampleHelpers.{Each}
+use Rattle.lotos_base.proofs.Each.{Each}
 use Rattle.induct_parts.specs.CaseView.{pattern_in, patterns_in, IsKnownPattern}
 use Rattle.induct_parts.specs.CertificateView.{tree_line_of}
 use Rattle.induct_parts.specs.SettingView.{setting_signature, setting_rules, setting_covers}
 use Rattle.certificate_theory.specs.Patterns.{PatternComesTo, IsWrongAtPattern}
-use Rattle.induct_parts.proofs.LineSteps.{deal_begins, deal_goes_on, deal_ends, deal_wrong, deal_missing, pushed_alone, some_left, stack_none, stack_some}
+use Rattle.sort_terms.proofs.SizeLemmas.{no_members}
+use Rattle.induct_parts.proofs.LineSteps.{deal_begins, deal_goes_on, deal_ends, deal_wrong, deal_missing, pushed_alone, some_left, stack_some}
 use Rattle.induct_parts.proofs.trees.deal.Goals as goal
 
 pub loop-number-init : goal.loop-number-init
@@ -56,7 +57,7 @@ returns-then-not-is_empty-clause-wrong c =
 
 pub returns-clause-right : goal.returns-clause-right
 returns-clause-right c =
-    let none = stack_none c.loop-number.left.items c.loop-number.left.len c.is_empty.result c.loop-number.left.ok.0 c.is_empty.ensures
+    let none = no_members c.loop-number.left.items c.loop-number.left.len c.is_empty.result c.loop-number.left.ok.0 c.is_empty.ensures
     (cc c.if-not-is_empty.false) in
     deal_ends (PatternComesTo (setting_signature c.args.setting.now) (setting_rules c.args.setting.now) (setting_covers c.args.setting.now))
     (IsWrongAtPattern (setting_rules c.args.setting.now) (setting_covers c.args.setting.now)) tree_line_of (pattern_in c.args.first ∷ [])

@@ -1,5 +1,5 @@
 use Rattle.std.proofs.Common.{[], ◌∷◌, reverse}
-use Rattle.lotos_base.proofs.ExampleHelpers.{Each}
+use Rattle.lotos_base.proofs.Each.{Each}
 use Rattle.certificate_theory.specs.Patterns.{PatternComesTo, IsWrongAtPattern}
 use Rattle.induct_parts.specs.CaseView.{IsKnownPattern, pattern_in, patterns_in}
 use Rattle.induct_parts.specs.CertificateView.{tree_line_of}

@@ -7,7 +7,7 @@ use Rattle.certificate_theory.specs.Patterns.{PatternComesTo, IsWrongAtPattern}
 use Rattle.certificate_theory.specs.InductionCertificate.{TreeLine}
 use Rattle.certificate_theory.specs.Faults.{bad_line}
 use Rattle.certificate_theory.specs.Lines.{FailsToDeal}
-use Rattle.induct_parts.specs.FaultView.{HoldsOfFault}
+use Rattle.induct_parts.specs.FaultView.{HoldsOfLineFault}
 use Rattle.induct_parts.specs.declared.line_fault.LineFault.{LineFault}
 use Rattle.induct_parts.proofs.Outcomes.{handed_on}
 use Rattle.induct_parts.proofs.LineSteps.{next_reach, next_known, next_wrong, next_surplus, top_known}
@@ -28,7 +28,7 @@ returns-in_default-clause-wrong c =
 
 pub returns-in_err-parts-clause-wrong : goal.returns-in_err-parts-clause-wrong
 returns-in_err-parts-clause-wrong c =
-    handed_on (λ (fault : LineFault). (rest : List TreeLine) → HoldsOfFault (FailsToDeal (PatternComesTo
+    handed_on (λ (fault : LineFault). (rest : List TreeLine) → HoldsOfLineFault (FailsToDeal (PatternComesTo
     (setting_signature c.args.setting.now) (setting_rules c.args.setting.now) (setting_covers c.args.setting.now))
     (IsWrongAtPattern (setting_rules c.args.setting.now) (setting_covers c.args.setting.now)) bad_line
     (map pattern_in (reverse c.args.left.now.items)) (tree_line_of c.args.line.now ∷ rest) 0) fault)

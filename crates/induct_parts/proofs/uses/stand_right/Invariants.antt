@@ -1,5 +1,5 @@
 use Rattle.std.proofs.Common.{take}
-use Rattle.lotos_base.proofs.ExampleHelpers.{Each}
+use Rattle.lotos_base.proofs.Each.{Each}
 use Rattle.induct_parts.specs.UseView.{StandsRight}
 use Rattle.induct_parts.proofs.uses.stand_right.Given as goal
 

@@ -1,11 +1,11 @@
 use Rattle.std.proofs.Common.{◌≡◌, length, ap, arith}
-use Rattle.line_server.proofs.TurnLemmas.{nothing_begun}
+use Rattle.std.proofs.lemmas.List.{nil_from_length}
 use Rattle.line_server.proofs.TurnLemmas.{last_none, last_served, last_failed, last_wanted}
 use Rattle.line_server.proofs.closing.finish.Goals as goal
 
 pub returns-then-is_empty-clause-served : goal.returns-then-is_empty-clause-served
 returns-then-is_empty-clause-served g c =
-    last_none g.L.Lines.machine c.args.line.now _ (nothing_begun c.args.line.now (grind
+    last_none g.L.Lines.machine c.args.line.now _ (nil_from_length c.args.line.now (grind
     (arith, c.is_empty.ensures, c.if-is_empty.ensures, c.if-is_empty.true)))
 
 pub returns-in-Err-clause-served : goal.returns-in-Err-clause-served

@@ -1,6 +1,6 @@
 use Rattle.std.proofs.Common.{◌≡◌, ◌≤◌, ℕ, List, take, get_or, length, refl, subst, arith}
 use Rattle.std.proofs.lemmas.List.{length-take-le}
-use Rattle.line_server.specs.Turn.{IsRead, at_end, input_failed, past_limit, in_piece, by_line, by_stop}
+use Rattle.line_server.specs.Turn.{IsReadOfInput, at_end, input_failed, past_limit, in_piece, by_line, by_stop}
 use Rattle.line_server.specs.declared.ends.Stop.TheVariants as stop
 use Rattle.line_server.proofs.TurnLemmas.{is_read, none_read, is_at_end, some_taken, one_taken}
 use Rattle.line_server.proofs.turn.serve_turn.Goals as goal
@@ -19,7 +19,7 @@ returns-then-total-eq-INPUT_LIMIT-clause-turned g c =
     let one : c.in-Ok.count ≡ 1 =
     omega (arith, c.in-Ok.ensures.within, c.room_at-room.ensures.alone c.if-total-eq-INPUT_LIMIT.true, c.in-Ok.count-test.1) in
     past_limit (get_or c.read_piece.new.piece 0 0) c.if-total-eq-INPUT_LIMIT.true
-    (subst (λ (it : List ℕ). IsRead (g.S.Source.left c.args.input.now) it (g.S.Source.left c.read_piece.new.input))
+    (subst (λ (it : List ℕ). IsReadOfInput (g.S.Source.left c.args.input.now) it (g.S.Source.left c.read_piece.new.input))
     (one_taken c.read_piece.new.piece c.in-Ok.count one (omega (arith, c.in-Ok.ensures.length, c.requires.piece)))
     (is_read _ _ c.read_piece.new.piece c.in-Ok.count c.in-Ok.ensures.moved))
     c.in-Ok.ensures.counts refl c.close-then-total-eq-INPUT_LIMIT.ensures

@@ -1,12 +1,12 @@
 use Rattle.std.proofs.Common.{◌≡◌, ℕ, List, Bor, Some, option_map}
-use Rattle.certificate_verbs.specs.HandedOn.{IsAccepted, asked_for, shelf_state, words_of, Has, goes_on, Beginning, check}
+use Rattle.certificate_verbs.specs.HandedOn.{IsAccepted, asked_acceptance, shelf_state, words_of, Has, goes_on, Beginning, check}
 use Rattle.certificate_verbs.specs.Printed.{print_in, IsFaultPrinted}
 use Rattle.certificate_verbs.specs.Finishing.{print, prints}
 use Rattle.certificate_verbs.specs.declared.ended.Ended.TheVariants.{Done}
 use Rattle.certificate_verbs.specs.declared.printing.Alone.{Alone}
 use Rattle.certificate_verbs.proofs.PrintedLemmas.{fault_ready, fault_came}
 use Rattle.lotos_top.specs.Opening.{opening_text}
-use Rattle.lotos_top.specs.Parts.{Opens}
+use Rattle.lotos_top.specs.Parts.{OpensSession}
 use Rattle.lotos_top.specs.Prepared.{begun, CameTo, IsReady}
 use Rattle.lotos_top.proofs.OpeningLemmas.{made_ready, checked_ready, checked_came}
 use Rattle.lotos_top.proofs.opening.checked.Goals as goal
@@ -18,22 +18,23 @@ pub returns-in-Ok : goal.returns-in-Ok
 returns-in-Ok g c =
     made_ready c.opened_alone.result c.ready_alone.result
     (λ (alone : Alone). (alone.text.items ≡ opening_text (begun c.in-Ok.opened)) × (alone.ended ≡ Done))
-    (IsReady (Some (check (asked_for c.args.spec.now (option_map (λ (word : Bor (List ℕ)). word.now) c.args.order)
+    (IsReady (Some (check (asked_acceptance c.args.spec.now (option_map (λ (word : Bor (List ℕ)). word.now) c.args.order)
     (words_of c.args.values.now))))
     (shelf_state (g.F.Shelf.texts c.args.shelf.now) (g.F.Shelf.faults c.args.shelf.now) (g.F.Shelf.calls c.args.shelf.now))
     (shelf_state (g.F.Shelf.texts c.open.new.shelf) (g.F.Shelf.faults c.open.new.shelf) (g.F.Shelf.calls c.open.new.shelf)))
-    (CameTo (Some (check (asked_for c.args.spec.now (option_map (λ (word : Bor (List ℕ)). word.now) c.args.order)
+    (CameTo (Some (check (asked_acceptance c.args.spec.now (option_map (λ (word : Bor (List ℕ)). word.now) c.args.order)
     (words_of c.args.values.now))))
     (shelf_state (g.F.Shelf.texts c.args.shelf.now) (g.F.Shelf.faults c.args.shelf.now) (g.F.Shelf.calls c.args.shelf.now))
     (shelf_state (g.F.Shelf.texts c.open.new.shelf) (g.F.Shelf.faults c.open.new.shelf) (g.F.Shelf.calls c.open.new.shelf)))
     c.ready_alone.ensures c.opened_alone.ensures
-    (λ alone is. checked_ready (asked_for c.args.spec.now (option_map (λ (word : Bor (List ℕ)). word.now) c.args.order)
+    (λ alone is. checked_ready (asked_acceptance c.args.spec.now (option_map (λ (word : Bor (List ℕ)). word.now) c.args.order)
     (words_of c.args.values.now))
     (shelf_state (g.F.Shelf.texts c.args.shelf.now) (g.F.Shelf.faults c.args.shelf.now) (g.F.Shelf.calls c.args.shelf.now))
     (shelf_state (g.F.Shelf.texts c.open.new.shelf) (g.F.Shelf.faults c.open.new.shelf) (g.F.Shelf.calls c.open.new.shelf))
     c.in-Ok.opened alone c.in-Ok.ensures.0 is.0 is.1) (
       goes_on (prints (print (opening_text (begun c.in-Ok.opened)) Done)),
-      checked_came (asked_for c.args.spec.now (option_map (λ (word : Bor (List ℕ)). word.now) c.args.order) (words_of c.args.values.now))
+      checked_came (asked_acceptance c.args.spec.now (option_map (λ (word : Bor (List ℕ)). word.now) c.args.order)
+          (words_of c.args.values.now))
           (shelf_state (g.F.Shelf.texts c.args.shelf.now) (g.F.Shelf.faults c.args.shelf.now) (g.F.Shelf.calls c.args.shelf.now))
           (shelf_state (g.F.Shelf.texts c.open.new.shelf) (g.F.Shelf.faults c.open.new.shelf) (g.F.Shelf.calls c.open.new.shelf))
           (begun c.in-Ok.opened) c.in-Ok.ensures.0,
@@ -44,24 +45,24 @@ returns-in-Err g c =
     made_ready c.failed_alone.result c.ready_alone-in-Err.result
     (λ (alone : Alone). IsFaultPrinted c.args.spec.now (option_map (λ (word : Bor (List ℕ)). word.now) c.args.order)
     c.in-Err.fault (print_in alone))
-    (IsReady (Some (check (asked_for c.args.spec.now (option_map (λ (word : Bor (List ℕ)). word.now) c.args.order)
+    (IsReady (Some (check (asked_acceptance c.args.spec.now (option_map (λ (word : Bor (List ℕ)). word.now) c.args.order)
     (words_of c.args.values.now))))
     (shelf_state (g.F.Shelf.texts c.args.shelf.now) (g.F.Shelf.faults c.args.shelf.now) (g.F.Shelf.calls c.args.shelf.now))
     (shelf_state (g.F.Shelf.texts c.open.new.shelf) (g.F.Shelf.faults c.open.new.shelf) (g.F.Shelf.calls c.open.new.shelf)))
-    (CameTo (Some (check (asked_for c.args.spec.now (option_map (λ (word : Bor (List ℕ)). word.now) c.args.order)
+    (CameTo (Some (check (asked_acceptance c.args.spec.now (option_map (λ (word : Bor (List ℕ)). word.now) c.args.order)
     (words_of c.args.values.now))))
     (shelf_state (g.F.Shelf.texts c.args.shelf.now) (g.F.Shelf.faults c.args.shelf.now) (g.F.Shelf.calls c.args.shelf.now))
     (shelf_state (g.F.Shelf.texts c.open.new.shelf) (g.F.Shelf.faults c.open.new.shelf) (g.F.Shelf.calls c.open.new.shelf)))
     c.ready_alone-in-Err.ensures c.failed_alone.ensures
     (λ alone is. fault_ready c.args.spec.now (option_map (λ (word : Bor (List ℕ)). word.now) c.args.order)
-    (Opens (IsAccepted (asked_for c.args.spec.now (option_map (λ (word : Bor (List ℕ)). word.now) c.args.order)
+    (OpensSession (IsAccepted (asked_acceptance c.args.spec.now (option_map (λ (word : Bor (List ℕ)). word.now) c.args.order)
     (words_of c.args.values.now))))
     (λ (it : Beginning). Has (prints (print (opening_text it) Done)))
     (shelf_state (g.F.Shelf.texts c.args.shelf.now) (g.F.Shelf.faults c.args.shelf.now) (g.F.Shelf.calls c.args.shelf.now))
     (shelf_state (g.F.Shelf.texts c.open.new.shelf) (g.F.Shelf.faults c.open.new.shelf) (g.F.Shelf.calls c.open.new.shelf))
     c.in-Err.fault (print_in alone) c.in-Err.ensures is)
     (fault_came c.args.spec.now (option_map (λ (word : Bor (List ℕ)). word.now) c.args.order)
-    (Opens (IsAccepted (asked_for c.args.spec.now (option_map (λ (word : Bor (List ℕ)). word.now) c.args.order)
+    (OpensSession (IsAccepted (asked_acceptance c.args.spec.now (option_map (λ (word : Bor (List ℕ)). word.now) c.args.order)
     (words_of c.args.values.now))))
     (λ (it : Beginning). Has (prints (print (opening_text it) Done)))
     (shelf_state (g.F.Shelf.texts c.args.shelf.now) (g.F.Shelf.faults c.args.shelf.now) (g.F.Shelf.calls c.args.shelf.now))

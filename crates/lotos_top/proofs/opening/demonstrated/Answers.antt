@@ -5,7 +5,7 @@ use Rattle.certificate_verbs.specs.Printed.{print_in, IsFaultPrinted}
 use Rattle.certificate_verbs.specs.declared.ended.Ended.TheVariants.{Done}
 use Rattle.certificate_verbs.specs.declared.printing.Alone.{Alone}
 use Rattle.lotos_top.specs.Prepared.{begun, CameTo, FailsAlone, IsReady}
-use Rattle.lotos_top.specs.Parts.{Opens}
+use Rattle.lotos_top.specs.Parts.{OpensSession}
 use Rattle.lotos_top.proofs.OpeningLemmas.{made_ready, opened_at_start, demo_ready, demo_fault, demo_came}
 use Rattle.lotos_top.proofs.opening.demonstrated.Goals as goal
 
@@ -28,7 +28,7 @@ returns-in-Ok c = λ now.
     (CameTo (Some (demonstration c.args.cells)) now now)
     c.ready_alone.ensures c.summary_alone.ensures
     (λ alone is. demo_ready c.args.cells now c.in-Ok.opened alone
-    (subst (λ (text : List ℕ). Opens (AcceptsText text None []) [] (goes_on (begun c.in-Ok.opened)))
+    (subst (λ (text : List ℕ). OpensSession (AcceptsText text None []) [] (goes_on (begun c.in-Ok.opened)))
     (c.as_slice.ensures.value ∙ c.in_ok-text.ensures) c.in-Ok.ensures.0)
     is.0 is.1)
     (demo_came c.args.cells now)
@@ -41,7 +41,7 @@ returns c = λ now.
     (CameTo (Some (demonstration c.args.cells)) now now)
     c.ready_alone-in-Err.ensures c.failed_alone.ensures
     (λ alone is. demo_fault c.args.cells now c.in-Err.fault alone
-    (subst (λ (text : List ℕ). FailsAlone (Opens (AcceptsText text None [])) c.in-Err.fault)
+    (subst (λ (text : List ℕ). FailsAlone (OpensSession (AcceptsText text None [])) c.in-Err.fault)
     (c.as_slice.ensures.value ∙ c.in_ok-text.ensures) c.in-Err.ensures)
     is)
     (demo_came c.args.cells now)

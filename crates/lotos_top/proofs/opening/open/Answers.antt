@@ -1,5 +1,5 @@
 use Rattle.std.proofs.Common.{ℕ, List, Bor, option_map}
-use Rattle.certificate_verbs.specs.HandedOn.{asked_for, shelf_state, words_of, IsAccepted, NoMemory}
+use Rattle.certificate_verbs.specs.HandedOn.{asked_acceptance, shelf_state, words_of, IsAccepted, NoMemory}
 use Rattle.certificate_verbs.proofs.HandedOn.{err_out}
 use Rattle.lotos_top.specs.Prepared.{begun}
 use Rattle.lotos_top.proofs.OpeningLemmas.{did_open, open_failed, want_to_open}
@@ -16,7 +16,8 @@ returns-in_err-accepted g c =
     err_out _ c.in_err-accepted.field-0.0 _ _ c.from_residual.ensures.1
     (open_failed (shelf_state (g.F.Shelf.texts c.args.shelf.now) (g.F.Shelf.faults c.args.shelf.now) (g.F.Shelf.calls c.args.shelf.now))
     (shelf_state (g.F.Shelf.texts c.read.new.shelf) (g.F.Shelf.faults c.read.new.shelf) (g.F.Shelf.calls c.read.new.shelf))
-    (IsAccepted (asked_for c.args.spec.now (option_map (λ (word : Bor (List ℕ)). word.now) c.args.order) (words_of c.args.values.now)))
+    (IsAccepted (asked_acceptance c.args.spec.now (option_map (λ (word : Bor (List ℕ)). word.now) c.args.order)
+    (words_of c.args.values.now)))
     c.in_err-accepted.field-0.0
     c.in_err-accepted.ensures)
 
@@ -25,7 +26,8 @@ returns-in_err-begin g c =
     err_out _ NoMemory _ _ c.from_residual-in_err-begin.ensures.1
     (want_to_open (shelf_state (g.F.Shelf.texts c.args.shelf.now) (g.F.Shelf.faults c.args.shelf.now) (g.F.Shelf.calls c.args.shelf.now))
     (shelf_state (g.F.Shelf.texts c.read.new.shelf) (g.F.Shelf.faults c.read.new.shelf) (g.F.Shelf.calls c.read.new.shelf))
-    (IsAccepted (asked_for c.args.spec.now (option_map (λ (word : Bor (List ℕ)). word.now) c.args.order) (words_of c.args.values.now)))
+    (IsAccepted (asked_acceptance c.args.spec.now (option_map (λ (word : Bor (List ℕ)). word.now) c.args.order)
+    (words_of c.args.values.now)))
     c.in_ok-accepted.ensures.0
     c.in_ok-accepted.ensures.1)
 
@@ -34,7 +36,7 @@ returns g c =
     let opened = c.in_ok-begin.ensures c.in_ok-accepted.ensures.0 c.in_ok-accepted.ensures.2 in (
       did_open (shelf_state (g.F.Shelf.texts c.args.shelf.now) (g.F.Shelf.faults c.args.shelf.now) (g.F.Shelf.calls c.args.shelf.now))
           (shelf_state (g.F.Shelf.texts c.read.new.shelf) (g.F.Shelf.faults c.read.new.shelf) (g.F.Shelf.calls c.read.new.shelf))
-          (IsAccepted (asked_for c.args.spec.now (option_map (λ (word : Bor (List ℕ)). word.now) c.args.order)
+          (IsAccepted (asked_acceptance c.args.spec.now (option_map (λ (word : Bor (List ℕ)). word.now) c.args.order)
           (words_of c.args.values.now))) c.in_ok-accepted.ensures.0
           (begun c.in_ok-begin.field-0) c.in_ok-accepted.ensures.1 opened.0,
       opened.1,

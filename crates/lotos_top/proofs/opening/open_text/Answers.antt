@@ -3,7 +3,7 @@ use Rattle.lotos_base.specs.MemShelf.{texts_of, faults_of, calls_of}
 use Rattle.certificate_verbs.specs.HandedOn.{shelf_state, AcceptsText, NoMemory}
 use Rattle.certificate_verbs.proofs.HandedOn.{err_out}
 use Rattle.lotos_top.specs.Prepared.{begun}
-use Rattle.lotos_top.specs.Parts.{Opens}
+use Rattle.lotos_top.specs.Parts.{OpensSession}
 use Rattle.lotos_top.proofs.OpeningLemmas.{no_files, did_open, open_failed, alone_on, alone_failed}
 use Rattle.lotos_top.proofs.opening.open_text.Goals as goal
 
@@ -18,7 +18,7 @@ returns-in_err-accepted c =
     err_out _ c.in_err-accepted.field-0.0 _ _ c.from_residual.ensures.1
     (alone_failed (shelf_state (Some (texts_of c.new-no_files.result)) (faults_of c.new-no_files.result) (calls_of c.new-no_files.result))
     (shelf_state (Some (texts_of c.of_text.new.shelf)) (faults_of c.of_text.new.shelf) (calls_of c.of_text.new.shelf))
-    (Opens (AcceptsText c.args.text.now None [])) c.in_err-accepted.field-0.0
+    (OpensSession (AcceptsText c.args.text.now None [])) c.in_err-accepted.field-0.0
     (no_files c.new-no_files.result c.new.result.items c.new-no_files.ensures.texts c.new.ensures.items)
     (open_failed (shelf_state (Some (texts_of c.new-no_files.result)) (faults_of c.new-no_files.result) (calls_of c.new-no_files.result))
     (shelf_state (Some (texts_of c.of_text.new.shelf)) (faults_of c.of_text.new.shelf) (calls_of c.of_text.new.shelf))
@@ -32,7 +32,7 @@ returns c =
     let opened = c.in_ok-begin.ensures c.in_ok-accepted.ensures.0 c.in_ok-accepted.ensures.2 in (
       alone_on (shelf_state (Some (texts_of c.new-no_files.result)) (faults_of c.new-no_files.result) (calls_of c.new-no_files.result))
           (shelf_state (Some (texts_of c.of_text.new.shelf)) (faults_of c.of_text.new.shelf) (calls_of c.of_text.new.shelf))
-          (Opens (AcceptsText c.args.text.now None [])) (begun c.in_ok-begin.field-0)
+          (OpensSession (AcceptsText c.args.text.now None [])) (begun c.in_ok-begin.field-0)
           (no_files c.new-no_files.result c.new.result.items c.new-no_files.ensures.texts c.new.ensures.items)
           (did_open (shelf_state (Some (texts_of c.new-no_files.result)) (faults_of c.new-no_files.result) (calls_of c.new-no_files.result))
           (shelf_state (Some (texts_of c.of_text.new.shelf)) (faults_of c.of_text.new.shelf) (calls_of c.of_text.new.shelf))

@@ -3,8 +3,7 @@ use Rattle.std.proofs.lemmas.Result.{IfOk-weaker}
 use Rattle.behaviour_semantics.specs.Solving as solving
 use Rattle.behaviour_tree.specs.StateView.{stands_for}
 use Rattle.behaviour_tree.specs.declared.states.Node.{Node}
-use Rattle.event_offers.specs.OfferView.{plain_entry}
-use Rattle.menu_builder.specs.Nodes.{IsKnownNode}
+use Rattle.shared_entries.specs.HandedOn.{plain_entry, IsKnownNode}
 use Rattle.step_taker.specs.Taken.{ground_of}
 use Rattle.menu_parts.specs.Forms.{IsExactOn}
 use Rattle.menu_parts.proofs.KeptLemmas.{taken_terms, whole_kept}

@@ -6,7 +6,7 @@ use Rattle.behaviour_semantics.specs.Solving.{Entry}
 use Rattle.behaviour_tree.specs.BehaviourView.{behaviour_of, terms_of}
 use Rattle.behaviour_tree.specs.DefinitionView.{process_of, specification_of}
 use Rattle.behaviour_tree.specs.StateView.{stands_for}
-use Rattle.menu_parts.specs.PartMenus.{call_menu}
+use Rattle.shared_entries.specs.PartMenus.{call_menu}
 use Rattle.step_taker.specs.Taken.{ground_of}
 use Rattle.step_taker.specs.Walked.{IsClosedOn}
 use Rattle.step_taker.proofs.BodyLemmas.{call_closed, is_called}

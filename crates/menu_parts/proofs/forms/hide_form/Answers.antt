@@ -2,7 +2,7 @@ use Rattle.std.proofs.Common.{ℕ, List, sym, subst, filter_map}
 use Rattle.behaviour_semantics.specs.Behaviour.{hide}
 use Rattle.behaviour_semantics.specs.Solving.{Entry}
 use Rattle.behaviour_tree.specs.StateView.{stands_for}
-use Rattle.menu_parts.specs.PartMenus.{hide_menu}
+use Rattle.shared_entries.specs.PartMenus.{hide_menu}
 use Rattle.step_taker.specs.Sides.{side_of}
 use Rattle.menu_parts.specs.Forms.{IsExactOn}
 use Rattle.menu_parts.proofs.FormLemmas.{hide_made, passable_side}

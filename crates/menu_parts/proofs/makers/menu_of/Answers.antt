@@ -2,10 +2,9 @@ use Rattle.std.proofs.Common.{◌∙◌, List, map, ap, sym, subst}
 use Rattle.std.specs.Prelude.{Vec}
 use Rattle.std.specs.declared.alloc.Global.{Global}
 use Rattle.behaviour_semantics.specs.WellFormed.{Every}
-use Rattle.event_offers.specs.OfferView.{plain_entry}
-use Rattle.event_offers.specs.declared.drafts.Entry.{Entry}
-use Rattle.menu_parts.specs.Items.{HasEntryTerms, HasItemTerms, plain_item}
-use Rattle.menu_parts.specs.declared.items.Item.{Item}
+use Rattle.shared_entries.specs.HandedOn.{plain_entry, Entry}
+use Rattle.shared_entries.specs.Items.{HasEntryTerms, HasItemTerms, plain_item}
+use Rattle.shared_entries.specs.declared.items.Item.{Item}
 use Rattle.menu_parts.proofs.KeptLemmas.{given_terms}
 use Rattle.menu_parts.proofs.makers.menu_of.Goals as goal
 

@@ -12,12 +12,12 @@ use Rattle.behaviour_semantics.specs.WellFormed.{Every}
 use Rattle.behaviour_tree.specs.BehaviourView.{meet_of}
 use Rattle.behaviour_tree.specs.StateView.{stands_for}
 use Rattle.behaviour_tree.specs.declared.states.Node.{Node}
-use Rattle.event_offers.proofs.KeepingLemmas.{held_before, holds_after}
-use Rattle.menu_parts.specs.Items.{IsItemOver}
-use Rattle.menu_parts.specs.Joined.{AreBeside}
+use Rattle.shared_entries.proofs.HandedOn.{held_before, holds_after}
+use Rattle.shared_entries.specs.Items.{IsItemOver}
+use Rattle.shared_entries.specs.Joined.{AreBeside}
 use Rattle.step_taker.specs.Taken.{ground_of}
 use Rattle.step_taker.specs.Walked.{IsPassableNode}
-use Rattle.menu_parts.specs.Forms.{IsBase, IsForm, IsMadeBeside, IsMadeOf, IsMadeOfEither}
+use Rattle.menu_parts.specs.Forms.{IsLawfulGround, IsForm, IsMadeBeside, IsMadeOf, IsMadeOfEither}
 use Rattle.menu_parts.specs.KeptMenus.{AreKeptBelow, IsKept, IsKeptFor, IsMaking, IsSpreadFor}
 use Rattle.menu_parts.specs.Spread.{IsOpened, by_way, listed_for, of_left, of_right}
 use Rattle.menu_parts.specs.declared.forms.Form.{Form}
@@ -545,7 +545,8 @@ side_by_side-both_spreads-requires g t c κs within = (
 
 pub side_by_side-both_made-requires-clause-base : goal.side_by_side-both_made-requires-clause-base
 side_by_side-both_made-requires-clause-base g t c =
-    holds_after (λ (d : Data) (f : Term → Term). IsBase (ground_of d f c.args.making.now.spec.now)) c.both_spreads.ensures.same_known
+    holds_after (λ (d : Data) (f : Term → Term). IsLawfulGround (ground_of d f c.args.making.now.spec.now))
+    c.both_spreads.ensures.same_known
     c.requires.base.base
 
 pub side_by_side-both_made-requires-clause-left : goal.side_by_side-both_made-requires-clause-left

@@ -3,7 +3,7 @@ use Rattle.behaviour_semantics.specs.Behaviour.{Relabelling, relabel}
 use Rattle.behaviour_semantics.specs.Solving.{Entry}
 use Rattle.std.specs.Prelude.{List}
 use Rattle.behaviour_tree.specs.StateView.{stands_for}
-use Rattle.menu_parts.specs.PartMenus.{relabel_menu}
+use Rattle.shared_entries.specs.PartMenus.{relabel_menu}
 use Rattle.step_taker.specs.Sides.{side_of}
 use Rattle.menu_parts.specs.Forms.{IsExactOn}
 use Rattle.menu_parts.proofs.FormLemmas.{passable_side, relabel_made}

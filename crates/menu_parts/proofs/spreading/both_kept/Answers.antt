@@ -5,10 +5,10 @@ use Rattle.std.proofs.lemmas.Result.{IfOk-weaker}
 use Rattle.behaviour_semantics.specs.Behaviour.{no_gates}
 use Rattle.behaviour_tree.specs.StateView.{stands_for}
 use Rattle.menu_parts.specs.Forms.{IsExactOn}
-use Rattle.menu_parts.specs.Joined.{AreBeside}
+use Rattle.shared_entries.specs.Joined.{AreBeside}
 use Rattle.menu_parts.specs.KeptMenus.{IsKept}
 use Rattle.menu_parts.specs.Spread.{listed_for}
-use Rattle.menu_parts.specs.declared.items.Item.{Item}
+use Rattle.shared_entries.specs.declared.items.Item.{Item}
 use Rattle.menu_parts.specs.declared.kept.Kept.{Kept}
 use Rattle.step_taker.specs.Taken.{ground_of}
 use Rattle.menu_parts.proofs.KeptLemmas.{two_kept}

@@ -4,7 +4,7 @@ use Rattle.behaviour_semantics.specs.Shape.{relabelled}
 use Rattle.behaviour_tree.specs.StateView.{stands_for}
 use Rattle.menu_parts.specs.Forms.{IsExactOn}
 use Rattle.menu_parts.specs.KeptMenus.{IsKept}
-use Rattle.menu_parts.specs.PartRule.{by_rule, under_rule}
+use Rattle.shared_entries.specs.PartRule.{by_rule, under_rule}
 use Rattle.menu_parts.specs.Spread.{listed_for}
 use Rattle.menu_parts.specs.declared.kept.Kept.{Kept}
 use Rattle.menu_parts.proofs.KeptLemmas.{one_kept}

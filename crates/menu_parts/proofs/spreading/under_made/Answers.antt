@@ -2,7 +2,7 @@ use Rattle.std.proofs.lemmas.Result.{IfOk-weaker}
 use Rattle.behaviour_tree.specs.StateView.{stands_for}
 use Rattle.behaviour_semantics.specs.Solving.{Entry}
 use Rattle.std.proofs.Common.{List}
-use Rattle.menu_parts.specs.PartMenus.{relabel_menu}
+use Rattle.shared_entries.specs.PartMenus.{relabel_menu}
 use Rattle.menu_parts.specs.Spread.{by_way}
 use Rattle.menu_parts.proofs.SpreadKept.{ended_kept, ended_none, kept_as_for, under_here}
 use Rattle.menu_parts.proofs.spreading.under_made.Goals as goal

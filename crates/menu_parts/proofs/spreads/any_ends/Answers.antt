@@ -1,15 +1,15 @@
 use Rattle.std.proofs.Common.{List, map, sym, subst}
 use Rattle.std.proofs.Math.ListN.{drop_of_length-le}
-use Rattle.menu_parts.specs.Items.{plain_item}
+use Rattle.shared_entries.specs.Items.{plain_item}
 use Rattle.menu_parts.specs.Spread.{NoneEnds}
-use Rattle.menu_parts.specs.declared.items.Item.{Item}
-use Rattle.menu_parts.proofs.ItemLemmas.{here}
+use Rattle.shared_entries.specs.declared.items.Item.{Item}
+use Rattle.lotos_base.proofs.Pieces.{next_member}
 use Rattle.menu_parts.proofs.spreads.any_ends.Goals as goal
 
 pub loop-item-preserved : goal.loop-item-preserved
 loop-item-preserved c = λ h.
     c.loop-item.invariant (subst (λ (xs : List Item). NoneEnds (map plain_item xs))
-    (sym (here c.deref-item-items.result.now c.loop-item.item-index c.item-item.result c.loop-item-test.true c.item-item.is))
+    (sym (next_member c.deref-item-items.result.now c.loop-item.item-index c.item-item.result c.loop-item-test.true c.item-item.is))
     (sym c.if-ends.ensures, h))
 
 pub returns : goal.returns

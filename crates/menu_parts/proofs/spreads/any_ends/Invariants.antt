@@ -1,5 +1,5 @@
 use Rattle.std.proofs.Common.{drop, map}
-use Rattle.menu_parts.specs.Items.{plain_item}
+use Rattle.shared_entries.specs.Items.{plain_item}
 use Rattle.menu_parts.specs.Spread.{NoneEnds}
 use Rattle.menu_parts.proofs.spreads.any_ends.Given as goal
 

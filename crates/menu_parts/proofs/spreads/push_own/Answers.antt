@@ -1,4 +1,4 @@
-use Rattle.menu_parts.proofs.PushedLemmas.{appended_terms}
+use Rattle.shared_entries.proofs.PushedLemmas.{appended_terms}
 use Rattle.menu_parts.proofs.WayLemmas.{own_pushed}
 use Rattle.menu_parts.proofs.spreads.push_own.Goals as goal
 

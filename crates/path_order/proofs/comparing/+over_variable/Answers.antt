@@ -1,6 +1,6 @@
 use Rattle.std.proofs.Common.{◌≡◌, List, length, take, ap, ◌∙◌, arith}
 use Rattle.sort_terms.specs.TermSize.{sizes_of}
-use Rattle.sort_terms.specs.TermView.{term_of, terms_of}
+use Rattle.sort_terms.specs.TermView.{term_of, bare_terms_of}
 use Rattle.sort_terms.specs.declared.terms.Term.{Term}
 use Rattle.sort_terms.proofs.SizeLemmas.{size_above, size_within}
 use Rattle.lotos_base.specs.Term.{variable}
@@ -23,11 +23,11 @@ returns t c =
     omega (arith, c.loop-argument-test.false, c.loop-argument.auto.argument-index-end) in
     let whole : take c.loop-argument.argument-index c.deref-argument-items.result.now ≡ c.items-arguments.result.now.items =
     take_whole c.deref-argument-items.result.now c.loop-argument.argument-index end ∙ c.deref-argument-items.ensures.value in
-    variable_node p c.args.number c.args.sort c.in-Node.op (terms_of c.items-arguments.result.now.items) c.loop-argument.below
+    variable_node p c.args.number c.args.sort c.in-Node.op (bare_terms_of c.items-arguments.result.now.items) c.loop-argument.below
     (term_of c.args.other.now)
     (term_of_items _ c.in-Node.op c.in-Node.profile c.in-Node.arguments c.items-arguments.result.now.items c.in-Node.is
     c.items-arguments.ensures)
-    (c.loop-argument.invariant ∙ ap (λ (xs : List Term). all_compared p (variable c.args.number c.args.sort) (terms_of xs)) whole)
+    (c.loop-argument.invariant ∙ ap (λ (xs : List Term). all_compared p (variable c.args.number c.args.sort) (bare_terms_of xs)) whole)
 
 -- each argument is smaller than the term
 pub over_variable-requires : goal.over_variable-requires

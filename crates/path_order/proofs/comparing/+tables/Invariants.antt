@@ -1,6 +1,6 @@
 use Rattle.std.proofs.Common.{◌≡◌, ◌++◌, drop, map, ◌+◌, ◌*◌}
-use Rattle.sort_terms.specs.TermView.{term_of, terms_of}
-use Rattle.path_order.specs.ComparedView.{table_of}
+use Rattle.sort_terms.specs.TermView.{term_of, bare_terms_of}
+use Rattle.path_order.specs.ComparedView.{compared_table_of}
 use Rattle.path_order.specs.Comparison.{each_compared}
 use Rattle.path_order.specs.PrecedenceView.{precedence_of}
 use Rattle.sort_terms.specs.TermSize.{size_of, sizes_of}
@@ -14,5 +14,6 @@ decreases-compare_each l = 2 * sizes_of l.terms.now.items + 1
 
 abbrev pub invariant-compare_each-loop-term : goal.invariant-compare_each-loop-term
 invariant-compare_each-loop-term l =
-    map table_of l.made.items ++ each_compared (precedence_of l.precedence) (terms_of (drop l.term-index l.term-items)) (term_of l.other)
-    ≡ each_compared (precedence_of l.precedence) (terms_of l.term-items) (term_of l.other)
+    map compared_table_of l.made.items ++ each_compared (precedence_of l.precedence) (bare_terms_of (drop l.term-index l.term-items))
+    (term_of l.other)
+    ≡ each_compared (precedence_of l.precedence) (bare_terms_of l.term-items) (term_of l.other)

@@ -5,7 +5,7 @@ use Rattle.lotos_base.specs.WrittenView.{listed_operation_of}
 use Rattle.sort_terms.specs.SignatureView.{signature_of}
 use Rattle.sort_terms.specs.declared.operations.Op.{Op}
 use Rattle.path_order.specs.Listed.{AreListedBy}
-use Rattle.path_order.specs.Listing.{AreListed, none_listed}
+use Rattle.path_order.specs.Listing.{AreListedByItems, none_listed}
 use Rattle.path_order.specs.PrecedenceView.{status_of}
 use Rattle.path_order.proofs.StatusLemmas.{no_statuses, statuses_more, statuses_all}
 use Rattle.path_order.proofs.ListingLemmas.{listed_below, listed_more, fine_more, first_wrong, fine_all}
@@ -13,7 +13,8 @@ use Rattle.path_order.proofs.listings.listing.Goals as goal
 
 pub loop-item-init : goal.loop-item-init
 loop-item-init c = record {
-  listed = subst (λ (ns : List ℕ). AreListed (signature_of c.args.signature.now) [] ns) (sym c.in_ok-made.ensures.nothing) none_listed;
+  listed =
+      subst (λ (ns : List ℕ). AreListedByItems (signature_of c.args.signature.now) [] ns) (sym c.in_ok-made.ensures.nothing) none_listed;
   fine = λ k before. absurd (omega (arith, before));
   room = c.in_ok-made.ensures.room ∙ ap (λ (ops : List Op). length ops) c.ops-2.ensures;
   statuses = no_statuses (signature_of c.args.signature.now) c.args.order.now c.in_ok-made.made.statuses.items c.in_ok-made.ensures.left;

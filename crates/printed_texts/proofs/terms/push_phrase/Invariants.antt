@@ -1,7 +1,7 @@
 use Rattle.std.proofs.Common.{◌≡◌, ◌++◌}
 use Rattle.sort_terms.specs.SignatureView.{signature_of}
 use Rattle.printed_texts.specs.KnownTwins.{AreKnownOf}
-use Rattle.printed_texts.specs.Parts.{weights, written}
+use Rattle.printed_texts.specs.Parts.{part_weights, written}
 use Rattle.printed_texts.specs.TermText.{shown}
 use Rattle.printed_texts.specs.TextView.{phrase_in}
 use Rattle.printed_texts.specs.TwinsView.{known_at}
@@ -16,4 +16,4 @@ invariant-loop-part l = record {
 }
 
 abbrev pub decreases-loop-part : goal.decreases-loop-part
-decreases-loop-part l = weights l.left.items
+decreases-loop-part l = part_weights l.left.items

@@ -2,7 +2,7 @@ use Rattle.std.proofs.Common.{◌≡◌, ◌+◌, ◌*◌, drop}
 use Rattle.lotos_base.specs.Substitution.{all_substituted}
 use Rattle.same_behaviours.specs.Placings.{values_of}
 use Rattle.sort_terms.specs.TermSize.{size_of, sizes_of}
-use Rattle.sort_terms.specs.TermView.{terms_of}
+use Rattle.sort_terms.specs.TermView.{bare_terms_of}
 use Rattle.same_behaviours.specs.TermDigests.{arguments_digest}
 use Rattle.same_behaviours.proofs.term_digests.+placed.Given as goal
 
@@ -14,5 +14,5 @@ decreases-placed_digests l = 2 * sizes_of l.terms.now.items + 1
 
 abbrev pub invariant-placed_digests-loop-term : goal.invariant-placed_digests-loop-term
 invariant-placed_digests-loop-term l =
-    arguments_digest l.before (all_substituted (values_of l.here) (terms_of l.term-items))
-    ≡ arguments_digest l.digest (all_substituted (values_of l.here) (terms_of (drop l.term-index l.term-items)))
+    arguments_digest l.before (all_substituted (values_of l.here) (bare_terms_of l.term-items))
+    ≡ arguments_digest l.digest (all_substituted (values_of l.here) (bare_terms_of (drop l.term-index l.term-items)))

@@ -2,7 +2,7 @@ use Rattle.std.proofs.Common.{◌≡◌, ◌+◌, arith, ap, length, sym, take, 
 use Rattle.same_behaviours.specs.TermDigests.{arguments_digest, digest_behind}
 use Rattle.same_behaviours.proofs.TermDigestLemmas.{by_last, one_more}
 use Rattle.sort_terms.proofs.SizeLemmas.{size_above, size_within}
-use Rattle.sort_terms.specs.TermView.{term_of, terms_of}
+use Rattle.sort_terms.specs.TermView.{term_of, bare_terms_of}
 use Rattle.same_behaviours.proofs.term_digests.+plain.Goals as goal
 
 pub first_digests-digest_behind-digest-requires : goal.first_digests-digest_behind-digest-requires
@@ -37,7 +37,7 @@ digest_behind-loop-left-preserved t c =
     let part = size_within items last one (omega (arith, whole)) c.index-left.ensures in (
       omega (arith, size, part, c.loop-left.invariant.0),
       ap (λ d. digest_behind d (term_of one)) (c.first_digests-digest.ensures
-          ∙ ap (λ d. arguments_digest d (terms_of (take last items))) c.mix-digest.ensures)
+          ∙ ap (λ d. arguments_digest d (bare_terms_of (take last items))) c.mix-digest.ensures)
           ∙ by_last c.loop-left.digest c.in-Node.op c.loop-left.left.now c.in-Node.profile c.in-Node.arguments items last one c.in-Node.is
           c.items-terms.ensures whole c.index-left.ensures
           ∙ c.loop-left.invariant.1,

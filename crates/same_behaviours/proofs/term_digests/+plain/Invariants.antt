@@ -1,6 +1,6 @@
 use Rattle.std.proofs.Common.{◌≡◌, ◌≤◌, ◌+◌, ◌*◌, take}
 use Rattle.sort_terms.specs.TermSize.{size_of, sizes_of}
-use Rattle.sort_terms.specs.TermView.{term_of, terms_of}
+use Rattle.sort_terms.specs.TermView.{term_of, bare_terms_of}
 use Rattle.same_behaviours.specs.TermDigests.{arguments_digest, digest_behind}
 use Rattle.same_behaviours.proofs.term_digests.+plain.Given as goal
 
@@ -19,4 +19,4 @@ abbrev pub decreases-digest_behind-loop-left : goal.decreases-digest_behind-loop
 decreases-digest_behind-loop-left l = size_of l.left
 
 abbrev pub invariant-first_digests-loop-i : goal.invariant-first_digests-loop-i
-invariant-first_digests-loop-i l = l.digest ≡ arguments_digest l.before (terms_of (take l.i l.terms.items))
+invariant-first_digests-loop-i l = l.digest ≡ arguments_digest l.before (bare_terms_of (take l.i l.terms.items))

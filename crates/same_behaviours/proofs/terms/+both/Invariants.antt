@@ -1,7 +1,7 @@
 use Rattle.std.proofs.Common.{◌≡◌, ◌+◌, ◌*◌, take}
 use Rattle.lotos_base.specs.Substitution.{all_substituted}
 use Rattle.sort_terms.specs.TermSize.{size_of, sizes_of}
-use Rattle.sort_terms.specs.TermView.{terms_of}
+use Rattle.sort_terms.specs.TermView.{bare_terms_of}
 use Rattle.same_behaviours.specs.Placings.{values_of}
 use Rattle.same_behaviours.proofs.terms.+both.Given as goal
 
@@ -13,5 +13,5 @@ decreases-all_same_terms l = 2 * sizes_of l.terms.now.items + 1
 
 abbrev pub invariant-all_same_terms-loop-i : goal.invariant-all_same_terms-loop-i
 invariant-all_same_terms-loop-i l =
-    all_substituted (values_of l.here) (terms_of (take l.i l.terms.items))
-    ≡ all_substituted (values_of l.there) (terms_of (take l.i l.others.items))
+    all_substituted (values_of l.here) (bare_terms_of (take l.i l.terms.items))
+    ≡ all_substituted (values_of l.there) (bare_terms_of (take l.i l.others.items))

@@ -1,7 +1,7 @@
 use Rattle.std.proofs.Common.{◌≡◌, ◌+◌, ◌*◌, take}
 use Rattle.lotos_base.specs.Substitution.{all_substituted}
 use Rattle.sort_terms.specs.TermSize.{size_of, sizes_of}
-use Rattle.sort_terms.specs.TermView.{terms_of}
+use Rattle.sort_terms.specs.TermView.{bare_terms_of}
 use Rattle.same_behaviours.specs.Placings.{values_of}
 use Rattle.same_behaviours.proofs.terms.+placed.Given as goal
 
@@ -13,4 +13,4 @@ decreases-are_placed l = 2 * sizes_of l.others.now.items + 1
 
 abbrev pub invariant-are_placed-loop-i : goal.invariant-are_placed-loop-i
 invariant-are_placed-loop-i l =
-    terms_of (take l.i l.terms.items) ≡ all_substituted (values_of l.placing) (terms_of (take l.i l.others.items))
+    bare_terms_of (take l.i l.terms.items) ≡ all_substituted (values_of l.placing) (bare_terms_of (take l.i l.others.items))

@@ -1,5 +1,5 @@
 use Rattle.std.proofs.Common.{◌∙◌, List, map, ap}
-use Rattle.syntax_trees.specs.TreeViews.{behaviour_of, heading_of, inner_of}
+use Rattle.syntax_trees.specs.TreeViews.{written_behaviour_of, heading_of, inner_of}
 use Rattle.syntax_trees.specs.WrittenDefinition.{WrittenInner, process, inners_of}
 use Rattle.tree_building.proofs.FromLast.{map_reverse}
 use Rattle.sentence_building.proofs.MadeProcesses.{made_process}
@@ -12,5 +12,5 @@ returns c =
     made_process heading.place heading.name heading.gates heading.params heading.func c.args.body c.turned.result
     ∙ ap
     (λ (inner : List WrittenInner). process (heading_of heading.place heading.name heading.gates.items heading.params.items heading.func)
-    (behaviour_of c.args.body) (inners_of inner))
+    (written_behaviour_of c.args.body) (inners_of inner))
     (ap (map inner_of) c.turned.ensures ∙ map_reverse inner_of c.args.inner.items)

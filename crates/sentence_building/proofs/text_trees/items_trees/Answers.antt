@@ -4,7 +4,7 @@ use Rattle.std.specs.Prelude.{Some, option_map, option_and_then}
 use Rattle.lotos_rows.specs.Starts.{AreItems}
 use Rattle.syntax_trees.specs.TreeViews.{item_of}
 use Rattle.tree_building.specs.MeaningView.{meaning}
-use Rattle.tree_building.specs.Parts.{items_in}
+use Rattle.tree_building.specs.Parts.{meant_items}
 use Rattle.sentence_trees.specs.LotosGrammar.{IsLotosGrammar}
 use Rattle.sentence_trees.proofs.Grammars.{of_types}
 use Rattle.sentence_building.proofs.Meanings.{items_given}
@@ -27,7 +27,8 @@ unreachable-requires-in_default-built_items c =
     let it =
     items_given c.args.text.now c.args.tokens.now c.args.rows.items c.types_grammar-grammar.result
     c.in_ok-value.field-0 c.types_grammar-grammar.ensures c.requires c.in_ok-value.ensures in
-    none-some _ (c.in_default-built_items.ensures ∙ ap (option_and_then items_in) (ap (option_map meaning) (sym c.in-Some.is) ∙ it.means))
+    none-some _ (c.in_default-built_items.ensures
+    ∙ ap (option_and_then meant_items) (ap (option_map meaning) (sym c.in-Some.is) ∙ it.means))
 
 pub returns : goal.returns
 returns c =
@@ -35,6 +36,6 @@ returns c =
     items_given c.args.text.now c.args.tokens.now c.args.rows.items c.types_grammar-grammar.result
     c.in_ok-value.field-0 c.types_grammar-grammar.ensures c.requires c.in_ok-value.ensures in
     let both : Some (map item_of c.in-Some-built_items.items.items) ≡ Some it.found =
-    c.in-Some-built_items.ensures ∙ ap (option_and_then items_in) (ap (option_map meaning) (sym c.in-Some.is) ∙ it.means) in
+    c.in-Some-built_items.ensures ∙ ap (option_and_then meant_items) (ap (option_map meaning) (sym c.in-Some.is) ∙ it.means) in
     let same : it.found ≡ map item_of c.in-Some-built_items.items.items = cc in
     subst (AreItems c.args.text.now c.args.tokens.now) same it.is

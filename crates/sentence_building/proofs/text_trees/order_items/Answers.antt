@@ -4,7 +4,7 @@ use Rattle.std.specs.Prelude.{Some, option_map, option_and_then}
 use Rattle.lotos_rows.specs.Starts.{AreOrderItems}
 use Rattle.lotos_base.specs.WrittenView.{listed_operation_of}
 use Rattle.tree_building.specs.MeaningView.{meaning}
-use Rattle.tree_building.specs.Parts.{order_items_in}
+use Rattle.tree_building.specs.Parts.{meant_order_items}
 use Rattle.sentence_trees.specs.LotosGrammar.{IsLotosGrammar}
 use Rattle.sentence_trees.proofs.Grammars.{of_order_files}
 use Rattle.sentence_building.proofs.Meanings.{order_given}
@@ -28,7 +28,7 @@ unreachable-requires-in_default-built_order c =
     order_given c.args.text.now c.args.tokens.now c.args.rows.items c.order_grammar-grammar.result
     c.in_ok-value.field-0 c.order_grammar-grammar.ensures c.requires c.in_ok-value.ensures in
     none-some _ (c.in_default-built_order.ensures
-    ∙ ap (option_and_then order_items_in) (ap (option_map meaning) (sym c.in-Some.is) ∙ it.means))
+    ∙ ap (option_and_then meant_order_items) (ap (option_map meaning) (sym c.in-Some.is) ∙ it.means))
 
 pub returns : goal.returns
 returns c =
@@ -36,6 +36,6 @@ returns c =
     order_given c.args.text.now c.args.tokens.now c.args.rows.items c.order_grammar-grammar.result
     c.in_ok-value.field-0 c.order_grammar-grammar.ensures c.requires c.in_ok-value.ensures in
     let both : Some (map listed_operation_of c.in-Some-built_order.items.items) ≡ Some it.found =
-    c.in-Some-built_order.ensures ∙ ap (option_and_then order_items_in) (ap (option_map meaning) (sym c.in-Some.is) ∙ it.means) in
+    c.in-Some-built_order.ensures ∙ ap (option_and_then meant_order_items) (ap (option_map meaning) (sym c.in-Some.is) ∙ it.means) in
     let same : it.found ≡ map listed_operation_of c.in-Some-built_order.items.items = cc in
     subst (AreOrderItems c.args.text.now c.args.tokens.now) same it.is

@@ -4,7 +4,7 @@ use Rattle.std.specs.Prelude.{Some, option_map, option_and_then}
 use Rattle.lotos_rows.specs.Starts.{AreOptionalTerms}
 use Rattle.lotos_base.specs.WrittenView.{written_term_of}
 use Rattle.tree_building.specs.MeaningView.{meaning}
-use Rattle.tree_building.specs.Parts.{terms_in}
+use Rattle.tree_building.specs.Parts.{meant_terms}
 use Rattle.sentence_trees.specs.LotosGrammar.{IsLotosGrammar}
 use Rattle.sentence_trees.proofs.Grammars.{of_terms}
 use Rattle.sentence_building.proofs.Meanings.{terms_given}
@@ -27,7 +27,8 @@ unreachable-requires-in_default-built_terms c =
     let it =
     terms_given c.args.text.now c.args.tokens.now c.args.rows.items c.terms_grammar-grammar.result
     c.in_ok-value.field-0 c.terms_grammar-grammar.ensures c.requires c.in_ok-value.ensures in
-    none-some _ (c.in_default-built_terms.ensures ∙ ap (option_and_then terms_in) (ap (option_map meaning) (sym c.in-Some.is) ∙ it.means))
+    none-some _ (c.in_default-built_terms.ensures
+    ∙ ap (option_and_then meant_terms) (ap (option_map meaning) (sym c.in-Some.is) ∙ it.means))
 
 pub returns : goal.returns
 returns c =
@@ -35,6 +36,6 @@ returns c =
     terms_given c.args.text.now c.args.tokens.now c.args.rows.items c.terms_grammar-grammar.result
     c.in_ok-value.field-0 c.terms_grammar-grammar.ensures c.requires c.in_ok-value.ensures in
     let both : Some (map written_term_of c.in-Some-built_terms.terms.items) ≡ Some it.found =
-    c.in-Some-built_terms.ensures ∙ ap (option_and_then terms_in) (ap (option_map meaning) (sym c.in-Some.is) ∙ it.means) in
+    c.in-Some-built_terms.ensures ∙ ap (option_and_then meant_terms) (ap (option_map meaning) (sym c.in-Some.is) ∙ it.means) in
     let same : it.found ≡ map written_term_of c.in-Some-built_terms.terms.items = cc in
     subst (AreOptionalTerms c.args.text.now c.args.tokens.now) same it.is

@@ -1,10 +1,10 @@
-use Rattle.sentence_trees.specs.Derived.{IsDerived, IsUnderived, start_of}
+use Rattle.sentence_trees.specs.Derived.{IsDerived, IsUnderived, start_part_of}
 use Rattle.sentence_trees.specs.Reading.{IsFaultAs}
 use Rattle.sentence_trees.proofs.Underived.{of_fault, underived}
 use Rattle.sentence_trees.proofs.derivations.derive.Goals as goal
 
 pub returns-clause-fault : goal.returns-clause-fault
 returns-clause-fault c =
-    of_fault c.derivation.result (IsDerived (start_of c.args.kind) c.args.number c.args.text.now)
-    (IsUnderived (start_of c.args.kind) c.args.number c.args.text.now) (IsFaultAs c.args.kind c.args.number c.args.text.now)
+    of_fault c.derivation.result (IsDerived (start_part_of c.args.kind) c.args.number c.args.text.now)
+    (IsUnderived (start_part_of c.args.kind) c.args.number c.args.text.now) (IsFaultAs c.args.kind c.args.number c.args.text.now)
     (λ fault is. underived c.args.kind c.args.number c.args.text.now fault is) c.derivation.ensures

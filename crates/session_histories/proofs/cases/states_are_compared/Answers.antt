@@ -4,7 +4,7 @@ use Rattle.printed_texts.specs.BehaviourText.{state_text}
 use Rattle.session_histories.specs.Session.{Situation, Progress}
 use Rattle.session_histories.specs.Replay.{in_line, state_differs, stops, shown_state, has_no_form, is_missing, has_no_state, is_elsewhere, is_there, all_done, one_stops, one_goes_on, all_stated, step_stops, state_stops, both_go_on}
 use Rattle.session_histories.specs.RefusalCases.{small_signature, small_specification, small_basis}
-use Rattle.session_histories.specs.StateCases.{LeadsOn, ComesTo}
+use Rattle.session_histories.specs.StateCases.{LeadsOn, ReplayOfTextComesTo}
 use Rattle.session_histories.proofs.cases.states_are_compared.Goals as goal
 
 -- the text of the state that the step leads to
@@ -23,10 +23,10 @@ differs : (first : Situation) (next : Progress) → LeadsOn first next → codes
 differs first next is same = apart (same ∙ shown first next is)
 
 other_state : (first : Situation) (next : Progress) → LeadsOn first next
-    → ComesTo first (codes "lotos-trace 2 S\n1 0 => g !0\nat stop\n")
+    → ReplayOfTextComesTo first (codes "lotos-trace 2 S\n1 0 => g !0\nat stop\n")
     (stops (in_line 3 (state_differs (codes "stop") (codes "h !0; stop"))))
 other_state first next is =
-    subst (λ (text : List ℕ). ComesTo first (codes "lotos-trace 2 S\n1 0 => g !0\nat stop\n")
+    subst (λ (text : List ℕ). ReplayOfTextComesTo first (codes "lotos-trace 2 S\n1 0 => g !0\nat stop\n")
     (stops (in_line 3 (state_differs (codes "stop") text)))) (shown first next is)
     (state_stops is.goes (is_elsewhere (codes "stop") refl (differs first next is)))
 

@@ -1,4 +1,4 @@
-use Rattle.session_log.proofs.ResultLemmas.{gave_up}
+use Rattle.lotos_base.proofs.Options.{gave_up}
 use Rattle.session_log.proofs.entries.counted_entry.Goals as goal
 
 pub returns-in_err-entry : goal.returns-in_err-entry

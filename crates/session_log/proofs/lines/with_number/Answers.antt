@@ -3,7 +3,8 @@ use Rattle.std.specs.Char.{is_ascii_digit}
 use Rattle.std.specs.List.{list_all}
 use Rattle.session_histories.specs.TraceLine as plain
 use Rattle.session_histories.specs.TraceLine.{first_digits, behind_digits}
-use Rattle.session_log.proofs.LineLemmas.{digits_taken, digits_dropped, all_are_digits, whole_rest}
+use Rattle.session_histories.proofs.TraceLemmas.{all_are_digits}
+use Rattle.session_log.proofs.LineLemmas.{digits_taken, digits_dropped, whole_rest}
 use Rattle.session_log.proofs.lines.with_number.Goals as goal
 
 pub with_digits-requires : goal.with_digits-requires
@@ -20,4 +21,4 @@ returns-clause-says c =
     let behind : drop count before ≡ behind_digits before =
     ap (λ (n : ℕ). drop n before) c.leading_digits-count.ensures.counted ∙ sym (digits_dropped before) in
     c.with_digits.ensures.says
-    ∙ ap₂ (λ (it rest : List ℕ). plain.with_number it rest c.args.label.now) first (whole_rest count before ∙ behind)
+    ∙ ap₂ (λ (it rest : List ℕ). plain.step_with_number it rest c.args.label.now) first (whole_rest count before ∙ behind)

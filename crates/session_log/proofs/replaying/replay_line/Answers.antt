@@ -1,12 +1,13 @@
 use Rattle.std.proofs.Common.{List, map, ap, sym, subst}
 use Rattle.lotos_base.specs.WrittenView.{written_term_of}
 use Rattle.lotos_base.specs.declared.written_terms.Written.{Written}
+use Rattle.lotos_base.proofs.Options.{gave_up}
 use Rattle.session_lines.specs.HandedOn.{IsTermsReading}
 use Rattle.menu_builder.specs.Menus.{entries_in}
 use Rattle.session_log.specs.CourseView.{basis_over, progress_of}
 use Rattle.session_log.specs.Lines.{said_by}
 use Rattle.session_log.proofs.ReplayLemmas.{tells_line, no_form, stops_unread, stops_misread, step_told_of_line, label_told_of_line}
-use Rattle.session_log.proofs.ResultLemmas.{gave_up, on_ok}
+use Rattle.session_log.proofs.ResultLemmas.{on_ok}
 use Rattle.session_log.proofs.replaying.replay_line.Goals as goal
 
 pub returns-in_err-said-clause-answered : goal.returns-in_err-said-clause-answered

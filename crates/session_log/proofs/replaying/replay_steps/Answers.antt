@@ -9,7 +9,7 @@ use Rattle.session_log.specs.Kept.{AreSuited, IsKeptCourse}
 use Rattle.session_log.specs.RefusalView.{IsInLine, TellsReplay}
 use Rattle.session_log.specs.Replayed.{IsGroundOver}
 use Rattle.session_log.proofs.ReplayLemmas.{line_done, lines_ended, refused_at}
-use Rattle.session_log.proofs.ResultLemmas.{gave_up}
+use Rattle.lotos_base.proofs.Options.{gave_up}
 use Rattle.session_log.proofs.replaying.replay_steps.Goals as goal
 
 pub replay_at-requires-clause-suited : goal.replay_at-requires-clause-suited

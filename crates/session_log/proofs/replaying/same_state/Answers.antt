@@ -2,7 +2,7 @@ use Rattle.std.proofs.Common.{ℕ, List, Some, ap, ◌∙◌}
 use Rattle.std.proofs.lemmas.Result.{MatchResult-weaker}
 use Rattle.session_log.specs.Replayed.{written_state}
 use Rattle.session_log.proofs.ReplayLemmas.{tells_line, none_kept, other_kept}
-use Rattle.session_log.proofs.ResultLemmas.{gave_up}
+use Rattle.lotos_base.proofs.Options.{gave_up}
 use Rattle.session_log.proofs.replaying.same_state.Goals as goal
 
 pub returns-in_err-kept : goal.returns-in_err-kept

@@ -1,14 +1,15 @@
 use Rattle.std.proofs.Common.{◌≡◌, ℕ, List, ap, sym, ◌∙◌}
+use Rattle.lotos_base.proofs.Pieces.{no_member_by_length}
 use Rattle.behaviour_tree.specs.declared.states.State.{State}
 use Rattle.session_log.specs.CourseView.{basis_over, progress_of}
 use Rattle.session_log.specs.Replayed.{written_state}
-use Rattle.session_log.proofs.ReplayLemmas.{none_there, some_there, none_left, state_shown, state_kept, state_told}
+use Rattle.session_log.proofs.ReplayLemmas.{some_there, none_left, state_shown, state_kept, state_told}
 use Rattle.session_log.proofs.replaying.state_at.Goals as goal
 
 pub returns-then-is_empty-clause-answered : goal.returns-then-is_empty-clause-answered
 returns-then-is_empty-clause-answered c = λ data_ canon over.
     none_left (basis_over data_ canon c.args.base.now.spec.now) (progress_of c.args.course.now) c.args.number c.args.rest.now
-    (none_there c.args.rest.now (sym c.is_empty.ensures ∙ c.if-is_empty.true))
+    (no_member_by_length c.args.rest.now (sym c.is_empty.ensures ∙ c.if-is_empty.true))
 
 pub returns-in-Ok-clause-answered : goal.returns-in-Ok-clause-answered
 returns-in-Ok-clause-answered c = λ data_ canon over.

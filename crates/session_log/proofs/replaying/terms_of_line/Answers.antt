@@ -1,5 +1,5 @@
 use Rattle.session_log.proofs.ReplayLemmas.{terms_told}
-use Rattle.session_log.proofs.ResultLemmas.{gave_up}
+use Rattle.lotos_base.proofs.Options.{gave_up}
 use Rattle.session_log.proofs.replaying.terms_of_line.Goals as goal
 
 pub returns-in_err-read_terms : goal.returns-in_err-read_terms

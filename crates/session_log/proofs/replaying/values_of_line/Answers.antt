@@ -6,7 +6,7 @@ use Rattle.session_histories.specs.Replay.{AreRead}
 use Rattle.session_log.specs.Entries.{AreGiven}
 use Rattle.session_log.specs.Values.{IsFirstMisread, TellsMisread}
 use Rattle.session_log.proofs.ReplayLemmas.{count_told, entry_misread}
-use Rattle.session_log.proofs.ResultLemmas.{gave_up}
+use Rattle.lotos_base.proofs.Options.{gave_up}
 use Rattle.session_log.proofs.replaying.values_of_line.Goals as goal
 
 pub returns-in_err-entry : goal.returns-in_err-entry

@@ -7,11 +7,11 @@ use Rattle.behaviour_tree.specs.StateView.{state_of}
 use Rattle.behaviour_tree.specs.declared.states.State.{State}
 use Rattle.sort_terms.specs.SignatureView.{signature_of}
 use Rattle.session_histories.specs.TraceText.{ended, line_of_state, stated_steps, step_text, trace_heading}
-use Rattle.session_log.specs.CourseView.{item_of, pasts_of, situation_of}
+use Rattle.session_log.specs.CourseView.{past_item_of, pasts_of, situation_of}
 use Rattle.session_log.specs.Courses.{written_trace}
 use Rattle.session_log.specs.declared.courses.Past.{Past}
 use Rattle.session_log.proofs.CourseLemmas.{behind_closed}
-use Rattle.session_log.proofs.ResultLemmas.{gave_up}
+use Rattle.lotos_base.proofs.Options.{gave_up}
 use Rattle.session_log.proofs.TextLemmas.{all_written, long_told, two_lines_more}
 use Rattle.session_log.proofs.traces.trace_within.Goals as goal
 
@@ -47,7 +47,7 @@ loop-index-preserved c =
     c.loop-index.invariant
     (c.in_ok-push_step.ensures
     ∙ ap (λ (it : List Name). c.loop-index.text.items
-    ++ ended (step_text (signature_of c.args.signature.now) (map spelling it) (item_of c.past-item.result))) c.as_slice.ensures.value)
+    ++ ended (step_text (signature_of c.args.signature.now) (map spelling it) (past_item_of c.past-item.result))) c.as_slice.ensures.value)
     (c.in_ok-push_state.ensures
     ∙ ap (λ (it : State). c.push_step.new.into.items
     ++ ended (line_of_state (signature_of c.args.signature.now) (specification_of c.args.spec.now) (state_of it))) c.state_behind.ensures)

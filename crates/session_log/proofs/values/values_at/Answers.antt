@@ -1,7 +1,7 @@
 use Rattle.std.proofs.Common.{◌+◌, map, sym, subst}
 use Rattle.lotos_base.specs.WrittenView.{written_term_of}
 use Rattle.sort_terms.specs.ReaderView.{signature_read}
-use Rattle.session_log.proofs.ResultLemmas.{gave_up}
+use Rattle.lotos_base.proofs.Options.{gave_up}
 use Rattle.session_log.proofs.ValueLemmas.{AreHalfRead, none_read, next_read, next_told, values_read}
 use Rattle.session_log.proofs.values.values_at.Goals as goal
 

@@ -2,7 +2,7 @@ use Rattle.std.proofs.Common.{List, refl, sym, ◌∙◌, subst, ap, arith}
 use Rattle.lotos_base.specs.Sorting.{AreGround, IsGround}
 use Rattle.sort_terms.specs.TermSize.{sizes_of}
 use Rattle.sort_terms.proofs.SizeLemmas.{size_above, size_within}
-use Rattle.sort_terms.specs.TermView.{term_of, terms_of}
+use Rattle.sort_terms.specs.TermView.{term_of, bare_terms_of}
 use Rattle.sort_terms.specs.declared.terms.Term.{Term}
 use Rattle.sort_terms.proofs.TermListLemmas.{ground_more, ground_at}
 use Rattle.sort_terms.proofs.terms.+ground.Goals as goal
@@ -13,7 +13,7 @@ are_ground-returns-then-not-is_ground t c = (
   (λ h. cc),
   (λ all. sym c.if-not-is_ground.true ∙ c.is_ground.ensures.1
       (ground_at c.deref-term-items.result.now c.loop-term.term-index c.term-item.result c.loop-term-test.true c.term-item.is
-      (subst (λ (ts : List Term). AreGround (terms_of ts)) (sym c.deref-term-items.ensures.value) all))),
+      (subst (λ (ts : List Term). AreGround (bare_terms_of ts)) (sym c.deref-term-items.ensures.value) all))),
 )
 
 pub are_ground-loop-term-preserved : goal.are_ground-loop-term-preserved

@@ -1,6 +1,6 @@
 use Rattle.std.proofs.Common.{take, ◌+◌, ◌*◌}
 use Rattle.sort_terms.specs.TermSize.{size_of, sizes_of}
-use Rattle.sort_terms.specs.TermView.{terms_of}
+use Rattle.sort_terms.specs.TermView.{bare_terms_of}
 use Rattle.lotos_base.specs.Sorting.{AreGround}
 use Rattle.sort_terms.proofs.terms.+ground.Given as goal
 
@@ -11,4 +11,4 @@ abbrev pub decreases-are_ground : goal.decreases-are_ground
 decreases-are_ground l = 2 * sizes_of l.terms.now.items + 1
 
 abbrev pub invariant-are_ground-loop-term : goal.invariant-are_ground-loop-term
-invariant-are_ground-loop-term l = AreGround (terms_of (take l.term-index l.term-items))
+invariant-are_ground-loop-term l = AreGround (bare_terms_of (take l.term-index l.term-items))

@@ -1,7 +1,7 @@
 use Rattle.std.proofs.Common.{sym, ◌∙◌, ◌≡◌, arith, subst, take}
 use Rattle.sort_terms.specs.Likenesses.{IsBelow, Tells}
 use Rattle.sort_terms.specs.TermSize.{size_of}
-use Rattle.sort_terms.specs.TermView.{term_of, terms_of}
+use Rattle.sort_terms.specs.TermView.{term_of, bare_terms_of}
 use Rattle.sort_terms.proofs.SizeLemmas.{size_within}
 use Rattle.sort_terms.proofs.TermListLemmas.{same_length, same_at, same_more, same_by_last}
 use Rattle.sort_terms.proofs.terms.+identity.Goals as goal
@@ -59,7 +59,8 @@ same_but_last-loop-i-preserved t c =
 -- all but the last ones are identical
 pub same_but_last-returns-clause-tells : goal.same_but_last-returns-clause-tells
 same_but_last-returns-clause-tells t c =
-    let before = subst (λ n. terms_of (take n c.args.terms.now.items) ≡ terms_of (take n c.args.others.now.items)) end c.loop-i.invariant in
+    let before = subst (λ n. bare_terms_of (take n c.args.terms.now.items) ≡ bare_terms_of (take n c.args.others.now.items)) end
+    c.loop-i.invariant in
     same_by_last c.args.terms.now.items c.args.others.now.items c.in-Some.last c.index-2.result.now c.index-3.result.now
     (omega (arith, c.in-Some.ensures, c.len-3.ensures, c.args.terms.now.ok.0))
     (omega (

@@ -1,6 +1,6 @@
 use Rattle.std.proofs.Common.{◌≡◌, ◌+◌, ◌*◌, ◌≤◌, take, ◌↔◌}
 use Rattle.sort_terms.specs.TermSize.{size_of, sizes_of}
-use Rattle.sort_terms.specs.TermView.{term_of, terms_of}
+use Rattle.sort_terms.specs.TermView.{term_of, bare_terms_of}
 use Rattle.sort_terms.proofs.terms.+identity.Given as goal
 
 abbrev pub decreases-Term::same : goal.decreases-Term::same
@@ -21,4 +21,4 @@ abbrev pub decreases-Term::same-loop-same : goal.decreases-Term::same-loop-same
 decreases-Term::same-loop-same l = size_of l.one
 
 abbrev pub invariant-same_but_last-loop-i : goal.invariant-same_but_last-loop-i
-invariant-same_but_last-loop-i l = terms_of (take l.i l.terms.items) ≡ terms_of (take l.i l.others.items)
+invariant-same_but_last-loop-i l = bare_terms_of (take l.i l.terms.items) ≡ bare_terms_of (take l.i l.others.items)

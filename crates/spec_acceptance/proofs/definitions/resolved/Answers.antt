@@ -1,4 +1,4 @@
-use Rattle.syntax_trees.specs.TreeViews.{specification_of as written_specification}
+use Rattle.syntax_trees.specs.TreeViews.{written_specification_of as written_specification}
 use Rattle.spec_acceptance.proofs.KnownLemmas.{resolved_fine, resolved_faulty}
 use Rattle.spec_acceptance.proofs.definitions.resolved.Goals as goal
 

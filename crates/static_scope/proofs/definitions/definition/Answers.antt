@@ -7,7 +7,7 @@ use Rattle.behaviour_tree.specs.Over.{AreTermsOf}
 use Rattle.static_scope.specs.HeadingView.{heading_in, written_heading}
 use Rattle.scope_parts.specs.Resolution.{resolved, faulty}
 use Rattle.scope_parts.proofs.AnswerLemmas.{err_is, means_map}
-use Rattle.syntax_trees.specs.TreeViews.{behaviour_of as written_behaviour}
+use Rattle.syntax_trees.specs.TreeViews.{written_behaviour_of as written_behaviour}
 use Rattle.lotos_base.specs.Signature.{Signature}
 use Rattle.static_scope.proofs.PointLemmas.{definition_passed, definition_stands}
 use Rattle.static_scope.proofs.definitions.definition.Goals as goal

@@ -6,7 +6,7 @@ use Rattle.static_scope.specs.HeadingView.{heading_in, written_heading}
 use Rattle.sort_terms.specs.EquationView.{variable_of}
 use Rattle.scope_parts.specs.GatesDeclared.{Gates}
 use Rattle.scope_parts.specs.GatesView.{gates_in}
-use Rattle.scope_parts.specs.Numbering.{spelled}
+use Rattle.scope_parts.specs.Numbering.{spelled_names}
 use Rattle.scope_parts.specs.Scope.{bind_all}
 use Rattle.scope_parts.proofs.AnswerLemmas.{err_is, means_map}
 use Rattle.scope_parts.proofs.FormedBehaviours.{declared_of}
@@ -68,7 +68,7 @@ returns-clause-seen c =
     let same =
     forgotten (state_in c.args.resolver.now) (state_in c.forget_gates.new.self) (state_in c.forget_variables.new.self)
     c.forget_gates.ensures c.forget_variables.ensures in
-    let names = spelled (written_heading c.args.text).gates in
+    let names = spelled_names (written_heading c.args.text).gates in
     c.in_ok-see.ensures
     ∙ inside_is (state_in c.args.resolver.now) (state_in c.forget_variables.new.self) (written_heading c.args.text)
     (record {

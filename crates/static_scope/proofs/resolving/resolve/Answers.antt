@@ -1,5 +1,5 @@
 use Rattle.sort_terms.specs.SignatureView.{signature_of}
-use Rattle.syntax_trees.specs.TreeViews.{specification_of as written_specification}
+use Rattle.syntax_trees.specs.TreeViews.{written_specification_of as written_specification}
 use Rattle.static_scope.proofs.FirstLemmas.{first_told, none_told}
 use Rattle.static_scope.proofs.resolving.resolve.Goals as goal
 

@@ -16,15 +16,15 @@ use Rattle.scope_parts.specs.Resolution.{resolved, faulty}
 use Rattle.scope_parts.specs.Definitions.{DefinitionIs, InnersAre}
 use Rattle.scope_parts.proofs.AnswerLemmas.{err_is, means_map}
 use Rattle.scope_parts.proofs.FormedDefinitions.{text_formed}
-use Rattle.syntax_trees.specs.TreeViews.{specification_of as written_specification}
+use Rattle.syntax_trees.specs.TreeViews.{written_specification_of as written_specification}
 use Rattle.syntax_trees.specs.WrittenDefinition.{WrittenInners}
 use Rattle.static_scope.specs.HeadingView.{heading_in}
 use Rattle.static_scope.specs.KeptPlaces.{places_of_processes}
-use Rattle.static_scope.specs.Points.{numbers_of}
+use Rattle.static_scope.specs.Points.{numbers_of_point}
 use Rattle.static_scope.specs.PointsView.{point_in}
 use Rattle.static_scope.specs.Sizes.{BeginsAt, sizes_of_all}
 use Rattle.static_scope.specs.SizesView.{written_inners}
-use Rattle.static_scope.specs.TextPlaces.{inners_places}
+use Rattle.static_scope.specs.TextPlaces.{inners_text_places}
 use Rattle.scope_parts.specs.Numbering.{inners_gates}
 use Rattle.static_scope.proofs.TextLemmas.{starts, text_places_are, begins_all, begins_behind, definition_outside, inners_outside, names_outside, text_value, definition_fault, inners_fault, signature_outside, signature_behind}
 use Rattle.static_scope.proofs.resolving.specification.Goals as goal
@@ -75,7 +75,7 @@ returns-in_err-definitions-clause-read c =
     c.in_ok-whole.ensures.passed
     (subst
     (λ xs. InnersAre (point_in c.definition.new.resolver).signature (point_in c.definition.new.resolver).processes []
-    (numbers_of (point_in c.definition.new.resolver)) (written_inners xs) (faulty f))
+    (numbers_of_point (point_in c.definition.new.resolver)) (written_inners xs) (faulty f))
     c.as_slice-2.ensures.value is)))
     c.in_err-definitions.ensures.read)
 
@@ -86,7 +86,7 @@ returns c =
     let defined =
     subst
     (λ (b : Beh). DefinitionIs (point_in c.declare.new.resolver).signature (point_in c.declare.new.resolver).processes
-    (numbers_of (point_in c.declare.new.resolver)) (written_specification c.args.text.now).heading
+    (numbers_of_point (point_in c.declare.new.resolver)) (written_specification c.args.text.now).heading
     (written_specification c.args.text.now).body (resolved (heading_in c.in_ok-whole.whole.0, behaviour_of b)))
     (sym c.in_ok-body.ensures) c.in_ok-whole.ensures.read in
     let inner : written_inners c.as_slice-2.result.now ≡ written_inners c.args.text.now.inner.items =
@@ -103,7 +103,7 @@ returns c =
     (resolved (map process_of c.in_ok-definitions.definitions.items)) start c.in_ok-declare.ensures c.in_ok-whole.ensures.passed
     (subst
     (λ (xs : WrittenInners). InnersAre (point_in c.definition.new.resolver).signature (point_in c.definition.new.resolver).processes []
-    (numbers_of (point_in c.definition.new.resolver)) xs (resolved (map process_of c.in_ok-definitions.definitions.items)))
+    (numbers_of_point (point_in c.definition.new.resolver)) xs (resolved (map process_of c.in_ok-definitions.definitions.items)))
     inner c.in_ok-definitions.ensures.read))
     c.in_ok-name.ensures
     (c.all_names-gate_names.ensures
@@ -134,5 +134,5 @@ returns c =
           text_places_are (written_specification c.args.text.now) (text_place_of c.args.text.now.place) (places_in c.in_ok-body.body.value)
           (places_of_processes c.in_ok-definitions.definitions.items) refl
           (ap places_in c.in_ok-body.ensures ∙ c.in_ok-whole.ensures.places)
-          (c.in_ok-definitions.ensures.places ∙ ap inners_places inner);
+          (c.in_ok-definitions.ensures.places ∙ ap inners_text_places inner);
     }

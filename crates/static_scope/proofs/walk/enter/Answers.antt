@@ -5,13 +5,13 @@ use Rattle.scope_parts.proofs.AnswerLemmas.{means_map}
 use Rattle.behaviour_tree.specs.BehaviourTerms.{profiles_in}
 use Rattle.behaviour_tree.specs.DefinitionView.{process_of}
 use Rattle.behaviour_tree.specs.Over.{AreTermsOf}
-use Rattle.syntax_trees.specs.TreeViews.{behaviour_of as written_behaviour}
+use Rattle.syntax_trees.specs.TreeViews.{written_behaviour_of as written_behaviour}
 use Rattle.static_scope.specs.ProcessView.{process_heading, written_definition}
 use Rattle.static_scope.specs.KeptPlaces.{places_of_process}
 use Rattle.static_scope.specs.Points.{Point}
 use Rattle.static_scope.specs.PointsView.{point_in}
 use Rattle.static_scope.specs.SizesView.{written_inners}
-use Rattle.static_scope.specs.Walk.{Task, in_front, steps_of}
+use Rattle.static_scope.specs.Walk.{Task, declaration_in_front, steps_of}
 use Rattle.static_scope.specs.WalkView.{task_of, tasks_in}
 use Rattle.static_scope.proofs.WalkLemmas.{entered_so, entering_fails, name_fails, own_sizes, process_less, with_number}
 use Rattle.static_scope.proofs.WalkSteps.{fault_handed, frames_entered, own_frame}
@@ -70,7 +70,7 @@ pub returns-clause-less : goal.returns-clause-less
 returns-clause-less c =
     subst
     (λ (ts : List Task). steps_of ts
-    < steps_of (in_front (written_definition c.args.text.now) (task_of c.args.left) ∷ tasks_in c.args.stack.now.items))
+    < steps_of (declaration_in_front (written_definition c.args.text.now) (task_of c.args.left) ∷ tasks_in c.args.stack.now.items))
     (sym
     (frames_entered c.args.stack.now.items c.push.new.self.items c.push-2.new.self.items _ _ (task_of c.args.left)
     (process_heading c.args.text.now).name (point_in c.args.resolver.now).processes c.args.text.now.inner.items

@@ -6,7 +6,7 @@ use Rattle.scope_parts.specs.Resolution.{faulty}
 use Rattle.scope_parts.specs.Scope.{Callable}
 use Rattle.static_scope.specs.PointsView.{point_in}
 use Rattle.static_scope.specs.Walk.{Task, WalkGoesOn, AreSizesKnown, WalkIs, steps_of}
-use Rattle.static_scope.specs.WalkView.{made_of, places_of_made, task_of, tasks_in, walk_at}
+use Rattle.static_scope.specs.WalkView.{processes_made, places_of_made, task_of, tasks_in, walk_at}
 use Rattle.static_scope.proofs.WalkLemmas.{end_gone, end_steps}
 use Rattle.static_scope.proofs.WalkSteps.{frame_ended, task_front}
 use Rattle.static_scope.proofs.walk.go_on.Goals as goal
@@ -45,7 +45,7 @@ returns-in-Some-clause-on c =
     subst
     (λ (t : Task). IfOk c.next_declared.result (λ made. WalkGoesOn c.args.sizes.now.items
     (walk_at c.args.resolver.now (t ∷ tasks_in c.args.stack.now.items))
-    (walk_at c.next_declared.new.resolver (tasks_in c.next_declared.new.stack.items)) (made_of made) (places_of_made made)))
+    (walk_at c.next_declared.new.resolver (tasks_in c.next_declared.new.stack.items)) (processes_made made) (places_of_made made)))
     (sym
     (task_front c.args.frame.rest.now c.in-Some.rest.now c.in-Some.first.now (bindings_in c.args.frame.before) c.args.frame.outside
     c.in-Some.ensures.cases.0))

@@ -4,7 +4,7 @@ use Rattle.scope_parts.specs.Resolution.{faulty}
 use Rattle.syntax_trees.specs.TreeViews.{inner_of, item_of}
 use Rattle.syntax_trees.specs.WrittenDefinition.{WrittenInner}
 use Rattle.static_scope.specs.PointsView.{point_in}
-use Rattle.static_scope.specs.Walk.{AreSizesKnown, WalkIs, in_front}
+use Rattle.static_scope.specs.Walk.{AreSizesKnown, WalkIs, declaration_in_front}
 use Rattle.static_scope.specs.WalkView.{task_of, tasks_in, walk_at}
 use Rattle.static_scope.proofs.SeenInner.{seen_definition, seen_item}
 use Rattle.static_scope.proofs.WalkLemmas.{item_gone, item_steps}
@@ -28,7 +28,7 @@ pub enter-requires : goal.enter-requires
 enter-requires c =
     subst
     (λ (x : WrittenInner). AreSizesKnown c.args.sizes.now.items
-    (walk_at c.args.resolver.now (in_front x (task_of c.args.left) ∷ tasks_in c.args.stack.now.items)))
+    (walk_at c.args.resolver.now (declaration_in_front x (task_of c.args.left) ∷ tasks_in c.args.stack.now.items)))
     (seen_definition c.args.first.now c.in-Process.text c.in-Process.is) c.requires
 
 pub returns-in_err-made-in-Process-clause-fault : goal.returns-in_err-made-in-Process-clause-fault
@@ -37,5 +37,5 @@ returns-in_err-made-in-Process-clause-fault c =
     c.from_residual-in_err-made-in-Process.ensures.1
     (subst
     (λ (x : WrittenInner). FaultIs c.in_err-made-in-Process.field-0.0 (λ f. WalkIs
-    (walk_at c.args.resolver.now (in_front x (task_of c.args.left) ∷ tasks_in c.args.stack.now.items)) (faulty f)))
+    (walk_at c.args.resolver.now (declaration_in_front x (task_of c.args.left) ∷ tasks_in c.args.stack.now.items)) (faulty f)))
     (sym (seen_definition c.args.first.now c.in-Process.text c.in-Process.is)) c.in_err-made-in-Process.ensures.fault)

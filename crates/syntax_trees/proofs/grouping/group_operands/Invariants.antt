@@ -1,6 +1,6 @@
 use Rattle.std.proofs.Common.{◌≡◌, map, length}
 use Rattle.std.specs.Prelude.{Some}
-use Rattle.syntax_trees.specs.Grouping.{leftmost}
+use Rattle.syntax_trees.specs.Grouping.{leftmost_grouping}
 use Rattle.syntax_trees.specs.Waiting.{StrengthRises, grouped_onto}
 use Rattle.syntax_trees.proofs.grouping.group_operands.Given as goal
 
@@ -8,7 +8,7 @@ use Rattle.syntax_trees.proofs.grouping.group_operands.Given as goal
 abbrev pub invariant-loop-sign : goal.invariant-loop-sign
 invariant-loop-sign g l =
     (length l.operands.items ≡ length l.signs.items)
-    × (leftmost g.O.Operand.binds g.O.Operand.joined (map g.O.Operand.plain l.fn.operands.items)
+    × (leftmost_grouping g.O.Operand.binds g.O.Operand.joined (map g.O.Operand.plain l.fn.operands.items)
     (map g.O.Operand.plain_sign l.fn.signs.items)
     ≡ Some (grouped_onto g.O.Operand.binds g.O.Operand.joined (map g.O.Operand.plain l.operands.items)
     (map g.O.Operand.plain_sign l.signs.items)

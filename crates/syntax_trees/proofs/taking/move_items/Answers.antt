@@ -1,5 +1,5 @@
 use Rattle.std.proofs.Common.{arith, map, drop, ap, ◌∙◌, ◌∷◌, sym}
-use Rattle.syntax_trees.specs.TreeViews.{inner_list_of, item_of, process_of}
+use Rattle.syntax_trees.specs.TreeViews.{inner_list_of, item_of, written_process_of}
 use Rattle.syntax_trees.proofs.TakingItems.{count_in, opened, closed_level, counts_process, counts_closed}
 use Rattle.syntax_trees.proofs.taking.move_items.Goals as goal
 
@@ -28,7 +28,7 @@ pub loop-item-preserved-in-Some-Process : goal.loop-item-preserved-in-Some-Proce
 loop-item-preserved-in-Some-Process c =
     let next = c.take_next.new.self in
     let at = c.in-Some-Process.ensures.next ∙ ap (λ it. it ∷ drop next.next next.list.items) c.in-Some-Process.field-0-is in
-    let parts = ap process_of (sym c.in-Some-Process.process-is) ∙ c.of-above.ensures.process in
+    let parts = ap written_process_of (sym c.in-Some-Process.process-is) ∙ c.of-above.ensures.process in
     let n = counts_process c.loop-item.level next c.loop-item.outer.items c.push_reserved-in-Some-Process.new.self.items c.of-above.result.0
     c.in-Some-Process.process c.of-above.result.1.items at c.of-above.ensures.level parts c.push_reserved-in-Some-Process.ensures.items in
     let a = ap (λ it. count_in (inner_list_of it)) c.of-level-in-Some-Process.ensures.ahead in (
@@ -45,7 +45,7 @@ pub loop-item-smaller-in-Some-Process : goal.loop-item-smaller-in-Some-Process
 loop-item-smaller-in-Some-Process c =
     let next = c.take_next.new.self in
     let at = c.in-Some-Process.ensures.next ∙ ap (λ it. it ∷ drop next.next next.list.items) c.in-Some-Process.field-0-is in
-    let parts = ap process_of (sym c.in-Some-Process.process-is) ∙ c.of-above.ensures.process in
+    let parts = ap written_process_of (sym c.in-Some-Process.process-is) ∙ c.of-above.ensures.process in
     let n = counts_process c.loop-item.level next c.loop-item.outer.items c.push_reserved-in-Some-Process.new.self.items c.of-above.result.0
     c.in-Some-Process.process c.of-above.result.1.items at c.of-above.ensures.level parts c.push_reserved-in-Some-Process.ensures.items in
     let a = ap (λ it. count_in (inner_list_of it)) c.of-level-in-Some-Process.ensures.ahead in

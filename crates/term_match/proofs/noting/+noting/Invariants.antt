@@ -1,7 +1,7 @@
 use Rattle.std.proofs.Common.{◌≡◌, drop, ◌+◌, ◌*◌}
 use Rattle.rewriting_theory.specs.Numbering.{all_variable_numbers}
 use Rattle.sort_terms.specs.TermSize.{size_of, sizes_of}
-use Rattle.sort_terms.specs.TermView.{terms_of}
+use Rattle.sort_terms.specs.TermView.{bare_terms_of}
 use Rattle.term_match.specs.Appearance.{noted}
 use Rattle.term_match.proofs.noting.+noting.Given as goal
 
@@ -13,5 +13,5 @@ decreases-note_all l = 2 * sizes_of l.terms.now.items + 1
 
 abbrev pub invariant-note_all-loop-term : goal.invariant-note_all-loop-term
 invariant-note_all-loop-term l =
-    noted l.fn.seen.items (all_variable_numbers (terms_of l.term-items))
-    ≡ noted l.seen.items (all_variable_numbers (terms_of (drop l.term-index l.term-items)))
+    noted l.fn.seen.items (all_variable_numbers (bare_terms_of l.term-items))
+    ≡ noted l.seen.items (all_variable_numbers (bare_terms_of (drop l.term-index l.term-items)))

@@ -5,7 +5,7 @@ use Rattle.std.proofs.lemmas.List.{nil_from_length}
 use Rattle.lotos_base.proofs.Pieces.{next_member}
 use Rattle.sort_terms.specs.Operations.{operation_of}
 use Rattle.sort_terms.specs.ProfiledTerm.{profiled_node}
-use Rattle.sort_terms.specs.TermSize.{whole_of}
+use Rattle.sort_terms.specs.TermSize.{whole_of_parts}
 use Rattle.sort_terms.specs.TermView.{profiled_of, all_profiled}
 use Rattle.sort_terms.specs.declared.terms.Term.{Term}
 use Rattle.sort_terms.proofs.CountedLemmas.{of_none, of_some}
@@ -74,7 +74,7 @@ begun-loop-argument-init t c =
     (node_with_items _ c.in-Node.op c.in-Node.profile c.in-Node.shapes c.items.result.now.items c.in-Node.is c.items.ensures
     ∙ ap (λ (ts : List Term). profiled_node c.in-Node.op (operation_of c.in-Node.profile.value) (all_profiled ts))
     (sym c.deref-argument-items.ensures.value))
-    (ap profiled_of (sym c.into_parts.ensures ∙ ap whole_of c.in-Operation.is)
+    (ap profiled_of (sym c.into_parts.ensures ∙ ap whole_of_parts c.in-Operation.is)
     ∙ profiled_Node c.in-Operation.op c.in-Operation.profile c.in-Operation.arguments
     ∙ ap (profiled_node c.in-Operation.op (operation_of c.in-Operation.profile.value)) (sym c.in_ok-parts-in-Operation.ensures))
     c.into_iter-rest.ensures.rest c.in_ok-forms-in-Operation.ensures.items c.requires.values

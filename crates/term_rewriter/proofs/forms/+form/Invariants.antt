@@ -2,7 +2,7 @@ use Rattle.std.proofs.Common.{◌+◌, ◌*◌, drop}
 use Rattle.std.specs.Vec.Iter.{into_iter_items}
 use Rattle.sort_terms.specs.Operations.{operation_of}
 use Rattle.sort_terms.specs.TermView.{profiled_of}
-use Rattle.term_rewriter.specs.Begun.{IsBegunOf, form_size, left_of}
+use Rattle.term_rewriter.specs.Begun.{IsBegunOf, form_size, left_to_do}
 use Rattle.term_rewriter.proofs.FormLemmas.{AreFormsSoFar}
 use Rattle.term_rewriter.proofs.forms.+form.Given as goal
 
@@ -26,4 +26,4 @@ invariant-form-loop-begun l =
     IsBegunOf l.rules (profiled_of l.fn.instance) (form_size l.rules (profiled_of l.fn.instance) + 1) l.begun
 
 abbrev pub decreases-form-loop-begun : goal.decreases-form-loop-begun
-decreases-form-loop-begun l = left_of l.rules l.begun
+decreases-form-loop-begun l = left_to_do l.rules l.begun

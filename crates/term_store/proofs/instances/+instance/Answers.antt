@@ -2,36 +2,36 @@ use Rattle.std.proofs.Common.{arith, refl, ap, ◌∙◌, ◌≡◌, ◌≤◌, 
 use Rattle.sort_terms.specs.Operations.{operation_of}
 use Rattle.sort_terms.specs.TermView.{profiled_of, all_profiled}
 use Rattle.sort_terms.specs.declared.terms.Term.{Term}
-use Rattle.sort_terms.proofs.BuiltLists.{node_with_items}
+use Rattle.sort_terms.proofs.BuiltLists.{node_with_items, profiled_Var}
 use Rattle.term_store.specs.Cells.{variable_key}
-use Rattle.term_store.specs.Numbered.{TakeIn, AreInstancesOf, numbers_in, values_of}
+use Rattle.term_store.specs.Numbered.{TakeIn, AreInstancesOf, numbers_in, numbered_substitution}
 use Rattle.term_store.specs.SharedView.{keys_in}
 use Rattle.term_store.proofs.NumberingLemmas.{known_number, variable_taken, variable_number, readied_behind, operation_taken, operation_number, IsNumberedSoFar, numbered_one, numbered_not, numbered_taken, numbered_all, below_grown}
 use Rattle.term_store.proofs.SizeLemmas.{size, sizes, member_size}
-use Rattle.term_store.proofs.ValueLemmas.{profiled_of-Var, profiled_rest, profiled_end}
+use Rattle.term_store.proofs.ValueLemmas.{profiled_rest, profiled_end}
 use Rattle.term_store.proofs.instances.+instance.Goals as goal
 
 pub instance_by-returns-in-Some-clause-number : goal.instance_by-returns-in-Some-clause-number
 instance_by-returns-in-Some-clause-number t c =
     known_number c.args.pairs.now (profiled_of c.args.term.now) c.in-Var.number c.in-Var.sort (keys_in c.args.shared.now) c.in-Some.known
-    c.in-Some.ensures (ap profiled_of c.in-Var.is ∙ profiled_of-Var c.in-Var.number c.in-Var.sort) c.requires
+    c.in-Some.ensures (ap profiled_of c.in-Var.is ∙ profiled_Var c.in-Var.number c.in-Var.sort) c.requires
 
 pub instance_by-returns-in-None-clause-takes : goal.instance_by-returns-in-None-clause-takes
 instance_by-returns-in-None-clause-takes t c =
     variable_taken (profiled_of c.args.term.now) c.in-Var.number c.in-Var.sort (keys_in c.args.shared.now)
     (variable_key c.in-Var.number c.in-Var.sort) (keys_in c.variable.new.shared)
-    (ap profiled_of c.in-Var.is ∙ profiled_of-Var c.in-Var.number c.in-Var.sort) refl c.variable.ensures.more
+    (ap profiled_of c.in-Var.is ∙ profiled_Var c.in-Var.number c.in-Var.sort) refl c.variable.ensures.more
 
 pub instance_by-returns-in-None-clause-number : goal.instance_by-returns-in-None-clause-number
 instance_by-returns-in-None-clause-number t c =
     variable_number c.args.pairs.now (profiled_of c.args.term.now) c.in-Var.number c.in-Var.sort (keys_in c.args.shared.now)
     (variable_key c.in-Var.number c.in-Var.sort) (keys_in c.variable.new.shared) c.variable.result c.in-None.ensures
-    (ap profiled_of c.in-Var.is ∙ profiled_of-Var c.in-Var.number c.in-Var.sort) refl c.variable.ensures.more
+    (ap profiled_of c.in-Var.is ∙ profiled_Var c.in-Var.number c.in-Var.sort) refl c.variable.ensures.more
     c.variable.ensures.stands
 
 pub instance_by-returns-in_ok-add_instances-in-Node-clause-takes : goal.instance_by-returns-in_ok-add_instances-in-Node-clause-takes
 instance_by-returns-in_ok-add_instances-in-Node-clause-takes t c =
-    let values = values_of c.args.pairs.now (keys_in c.args.shared.now) in
+    let values = numbered_substitution c.args.pairs.now (keys_in c.args.shared.now) in
     let start : c.len-start.result ≡ length c.args.key.now.items = omega (arith, c.len-start.ensures, c.args.key.now.ok.0) in
     operation_taken values (profiled_of c.args.term.now) c.in-Node.op (operation_of c.in-Node.profile.value)
     (all_profiled c.items.result.now.items) (keys_in c.args.shared.now) (keys_in c.add_instances.new.shared)
@@ -44,7 +44,7 @@ instance_by-returns-in_ok-add_instances-in-Node-clause-takes t c =
 
 pub instance_by-returns-in_ok-add_instances-in-Node-clause-number : goal.instance_by-returns-in_ok-add_instances-in-Node-clause-number
 instance_by-returns-in_ok-add_instances-in-Node-clause-number t c =
-    let values = values_of c.args.pairs.now (keys_in c.args.shared.now) in
+    let values = numbered_substitution c.args.pairs.now (keys_in c.args.shared.now) in
     let start : c.len-start.result ≡ length c.args.key.now.items = omega (arith, c.len-start.ensures, c.args.key.now.ok.0) in
     operation_number values (profiled_of c.args.term.now) c.in-Node.op (operation_of c.in-Node.profile.value)
     (all_profiled c.items.result.now.items) (keys_in c.args.shared.now) (keys_in c.add_instances.new.shared)
@@ -114,7 +114,7 @@ add_instances-returns-clause-numbers t c =
     let xs = c.deref-term-items.result.now in
     let i = c.loop-term.term-index in
     let end : length xs ≤ i = omega (arith, c.loop-term-test.false) in
-    subst (λ (terms : List Term). AreInstancesOf (values_of c.args.pairs.now (keys_in c.args.shared.now)) (all_profiled terms)
+    subst (λ (terms : List Term). AreInstancesOf (numbered_substitution c.args.pairs.now (keys_in c.args.shared.now)) (all_profiled terms)
     (keys_in c.args.shared.now) (keys_in c.loop-term.shared) c.args.key.now.items c.loop-term.key.items) c.deref-term-items.ensures.value
     (numbered_all c.args.pairs.now (all_profiled xs) (all_profiled (drop i xs)) (keys_in c.args.shared.now) (keys_in c.loop-term.shared)
     c.args.key.now.items c.loop-term.key.items (profiled_end xs i end) c.loop-term.invariant)

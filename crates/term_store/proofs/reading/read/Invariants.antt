@@ -1,7 +1,7 @@
 use Rattle.std.proofs.Common.{◌≡◌, [], ◌∷◌}
 use Rattle.sort_terms.specs.MadeTerms.{made_of}
 use Rattle.path_order.specs.RulesView.{signature_in}
-use Rattle.term_store.specs.Made.{AreMadeOf, all_made, turns_of}
+use Rattle.term_store.specs.Made.{AreMadeOf, all_made, making_turns_of}
 use Rattle.term_store.specs.Numbered.{term_at}
 use Rattle.term_store.specs.SharedView.{keys_in}
 use Rattle.term_store.proofs.reading.read.Given as goal
@@ -15,4 +15,4 @@ invariant-loop-next l = record {
 }
 
 abbrev pub decreases-loop-next : goal.decreases-loop-next
-decreases-loop-next l = turns_of (signature_in l.rules) (keys_in l.shared) l.left.items
+decreases-loop-next l = making_turns_of (signature_in l.rules) (keys_in l.shared) l.left.items

@@ -1,7 +1,7 @@
 use Rattle.std.proofs.Common.{rules, arith, ◌<◌, ◌^◌, ◌∙◌, sym, subst, length, get_or, ℕ, List}
 use Rattle.term_store.specs.SharedView.{keys_in}
 use Rattle.term_store.proofs.ReadLemmas.{IsVariableKey, variable_key_at}
-use Rattle.term_store.proofs.ValueLemmas.{profiled_of-Var}
+use Rattle.sort_terms.proofs.BuiltLists.{profiled_Var}
 use Rattle.term_store.proofs.reading.read_variable.Goals as goal
 
 pub bounds-key-1 : goal.bounds-key-1
@@ -33,4 +33,4 @@ returns c =
     let key = subst (λ (key : List ℕ). IsVariableKey c.args.rules.now (keys_in c.args.shared.now) c.args.number key)
     (sym c.key-key.ensures)
     (variable_key_at c.args.rules.now (keys_in c.args.shared.now) c.args.number c.requires.have c.requires.within c.requires.variable) in
-    profiled_of-Var (get_or c.key-key.result.now 1 0) (get_or c.key-key.result.now 2 0) ∙ sym key.term
+    profiled_Var (get_or c.key-key.result.now 1 0) (get_or c.key-key.result.now 2 0) ∙ sym key.term

@@ -1,6 +1,6 @@
 use Rattle.std.proofs.Common.{subst, List, ℕ}
 use Rattle.sort_terms.specs.TermView.{profiled_of}
-use Rattle.term_store.specs.Numbered.{IsInstanceOf, values_of}
+use Rattle.term_store.specs.Numbered.{IsInstanceOf, numbered_substitution}
 use Rattle.term_store.specs.SharedView.{keys_in}
 use Rattle.term_store.proofs.StepLemmas.{no_step, found_rule, right_kept, right_made}
 use Rattle.term_store.proofs.steps.step.Goals as goal
@@ -23,7 +23,7 @@ pub returns-in_ok-instance-in-Some-clause-step : goal.returns-in_ok-instance-in-
 returns-in_ok-instance-in-Some-clause-step c =
     let found = found_rule c.args.rules.now (keys_in c.args.shared.now) c.args.number c.in-Some.rule c.in-Some.pairs
     c.in_ok-first_rule.field-0 c.in-Some.is c.in_ok-first_rule.ensures in
-    let made = subst (λ (pairs : List (ℕ × ℕ)). IsInstanceOf (values_of pairs (keys_in c.args.shared.now))
+    let made = subst (λ (pairs : List (ℕ × ℕ)). IsInstanceOf (numbered_substitution pairs (keys_in c.args.shared.now))
     (profiled_of c.term-right.result.now) (keys_in c.args.shared.now) (keys_in c.instance.new.shared) c.in_ok-instance-in-Some.field-0)
     c.as_slice.ensures.value c.in_ok-instance-in-Some.ensures.number in
     right_made c.args.rules.now (keys_in c.args.shared.now) (keys_in c.instance.new.shared) c.args.number c.in-Some.rule

@@ -1,9 +1,9 @@
 use Rattle.std.proofs.Common.{◌∙◌, ap, sym, arith}
 use Rattle.std.proofs.lemmas.List.{nil_from_length}
 use Rattle.ll_engine.specs.Run.{from_last}
+use Rattle.ll_engine.proofs.Stacks.{from_last_more, from_last_none}
 use Rattle.text_depth.specs.RowDepth.{closed_parts}
 use Rattle.text_depth.specs.PartView.{kept_of}
-use Rattle.tree_building.proofs.FromLast.{from_last_more, from_last_none}
 use Rattle.text_depth.proofs.PartLists.{found_first, none_first}
 use Rattle.text_depth.proofs.lists.closed_parts.Goals as goal
 

@@ -2,7 +2,8 @@ use Rattle.std.proofs.Common.{◌∙◌, ◌∷◌, [], ◌++◌, ap, append_ass
 use Rattle.std.proofs.lemmas.List.{map-append, nil_from_length}
 use Rattle.ll_engine.specs.Run.{from_last}
 use Rattle.lotos_base.specs.WrittenView.{text_place_of}
-use Rattle.tree_building.proofs.FromLast.{from_last_none, map_reverse}
+use Rattle.ll_engine.proofs.Stacks.{from_last_none}
+use Rattle.tree_building.proofs.FromLast.{map_reverse}
 use Rattle.text_depth.specs.DepthPart.{of_names}
 use Rattle.text_depth.specs.RowDepth.{joined_parts}
 use Rattle.text_depth.specs.PartView.{kept_of}

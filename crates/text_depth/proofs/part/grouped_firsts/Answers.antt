@@ -4,7 +4,7 @@ use Rattle.ll_engine.specs.Run.{from_last}
 use Rattle.ll_engine.proofs.Running.{length-from_last}
 use Rattle.syntax_trees.specs.Grouping.{grouped}
 use Rattle.tree_building.proofs.FromLast.{map_reverse}
-use Rattle.syntax_trees.specs.Firsts.{between}
+use Rattle.syntax_trees.specs.Firsts.{firsts_between}
 use Rattle.syntax_trees.specs.FirstsView.{firsts_of}
 use Rattle.text_depth.specs.RowDepth.{or_no_nodes}
 use Rattle.text_depth.proofs.PartLists.{no_tree}
@@ -36,7 +36,9 @@ returns c =
     (λ tree is.
     sym
     (ap or_no_nodes
-    (ap (λ it. grouped (λ strength. strength) (λ strength. between) it (from_last (λ (strength : ℕ). strength) c.args.strengths.items))
+    (ap (λ it. grouped (λ strength. strength) (λ strength. firsts_between) it
+    (from_last (λ (strength : ℕ). strength) c.args.strengths.items))
     (sym operands)
-    ∙ ap (λ it. grouped (λ strength. strength) (λ strength. between) (map firsts_of c.turned.result.items) it) (sym strengths) ∙ is)))
+    ∙ ap (λ it. grouped (λ strength. strength) (λ strength. firsts_between) (map firsts_of c.turned.result.items) it)
+    (sym strengths) ∙ is)))
     c.group_operands.ensures

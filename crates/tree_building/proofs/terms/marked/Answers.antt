@@ -5,7 +5,7 @@ use Rattle.lotos_base.specs.Name.{spelling}
 use Rattle.lotos_base.specs.WrittenTerm.{PlacedName, WrittenTerm, written, written_terms}
 use Rattle.lotos_base.specs.WrittenView.{text_place_of, form_of, placed_name_of, written_term_of}
 use Rattle.lotos_rows.specs.HandedOn.{from_last}
-use Rattle.tree_building.specs.TermsMeaning.{with_sorts}
+use Rattle.tree_building.specs.TermsMeaning.{with_written_sorts}
 use Rattle.tree_building.proofs.FromLast.{map_reverse}
 use Rattle.tree_building.proofs.MadeTerms.{made, opened}
 use Rattle.tree_building.proofs.terms.marked.Goals as goal
@@ -29,4 +29,4 @@ returns c =
     })
     (written_terms (map written_term_of term.args.items)))
     sorts_are
-    ∙ sym (ap (with_sorts mark) (opened c.args.term))
+    ∙ sym (ap (with_written_sorts mark) (opened c.args.term))

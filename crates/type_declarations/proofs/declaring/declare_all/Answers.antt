@@ -4,7 +4,7 @@ use Rattle.std.proofs.lemmas.Result.{err_from_is_err_and}
 use Rattle.lotos_base.specs.Name.{spelling}
 use Rattle.lotos_base.specs.Signature.{Sort}
 use Rattle.type_presentations.specs.NamesView.{HasNames}
-use Rattle.syntax_trees.specs.TreeViews.{operation_of}
+use Rattle.syntax_trees.specs.TreeViews.{written_operation_of}
 use Rattle.type_definitions.proofs.HoldsLemmas.{holds_weaker}
 use Rattle.type_definitions.specs.declared.type_faults.TypeFault.TheVariants.{NoMemory}
 use Rattle.type_presentations.specs.PresentationView.{presentation_of}
@@ -96,5 +96,6 @@ declare_ops-requires-2-clause-named c =
     subst (λ (ss : List Sort). HasNames c.in_ok-sorts.sorts (map (λ (s : Sort). s.name) ss)) c.sorts.ensures c.in_ok-sorts.ensures in
     subst (λ (ns : List (List ℕ)). HasNames c.in_ok-sorts.sorts ns)
     (sort_names_stay (spelling c.args.type_name.now) true (presentation_of c.declare_sorts-2.new.presentation)
-    (presentation_of c.declare_ops.new.presentation) (map operation_of c.args.sections.now.formal_ops.now) c.in_ok-declare_ops.ensures.made)
+    (presentation_of c.declare_ops.new.presentation) (map written_operation_of c.args.sections.now.formal_ops.now)
+    c.in_ok-declare_ops.ensures.made)
     named

@@ -5,7 +5,7 @@ use Rattle.lotos_base.specs.Name.{spelling}
 use Rattle.lotos_base.specs.WrittenView.{form_of}
 use Rattle.lotos_base.specs.Signature.{Operation}
 use Rattle.sort_terms.specs.Operations.{operation_of}
-use Rattle.syntax_trees.specs.TreeViews.{operation_of as written_operation_of}
+use Rattle.syntax_trees.specs.TreeViews.{written_operation_of}
 use Rattle.type_definitions.proofs.HoldsLemmas.{holds_weaker}
 use Rattle.type_definitions.specs.Presentation.{Presentation, is_too_large}
 use Rattle.type_presentations.specs.PresentationView.{presentation_of}

@@ -1,6 +1,6 @@
 use Rattle.std.proofs.Common.{map, drop}
 use Rattle.lotos_base.specs.Name.{spelling}
-use Rattle.syntax_trees.specs.TreeViews.{operation_of}
+use Rattle.syntax_trees.specs.TreeViews.{written_operation_of}
 use Rattle.type_definitions.specs.Declarations.{operation_fault, with_operation}
 use Rattle.type_definitions.proofs.WalkLemmas.{Walking}
 use Rattle.type_presentations.specs.NamesView.{HasNames}
@@ -12,5 +12,5 @@ abbrev pub invariant-loop-op : goal.invariant-loop-op
 invariant-loop-op l =
     IsSound l.presentation × IsWithinLimits l.presentation × HasNames l.sorts (sort_names (presentation_of l.presentation))
     × Walking (operation_fault (spelling l.type_name) l.is_formal) (with_operation (spelling l.type_name) l.is_formal)
-    (presentation_of l.fn.presentation) (presentation_of l.presentation) (map operation_of (drop l.op-index l.declared))
-    (map operation_of l.declared)
+    (presentation_of l.fn.presentation) (presentation_of l.presentation) (map written_operation_of (drop l.op-index l.declared))
+    (map written_operation_of l.declared)

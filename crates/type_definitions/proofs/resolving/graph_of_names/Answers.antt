@@ -3,7 +3,7 @@ use Rattle.std.specs.Prelude.{Option, None}
 use Rattle.std.proofs.Math.Seq.{take-length, drop-length}
 use Rattle.lotos_base.specs.WrittenTerm.{PlacedName}
 use Rattle.type_definitions.specs.DeclaredTypes.{DeclaredType, mentions_in, type_numbers, mention_graph}
-use Rattle.type_definitions.specs.GraphRows.{rows_of}
+use Rattle.type_definitions.specs.GraphRows.{graph_rows_of}
 use Rattle.type_definitions.specs.MentionFaults.{unknown_mention, AreAllKnown}
 use Rattle.type_definitions.specs.TypeNamesView.{types_in}
 use Rattle.type_definitions.specs.TypeView.{declared_types_of}
@@ -19,11 +19,11 @@ of-requires c =
     ∙ ap (λ n. unknown_mention (types_in c.args.names.now) (declared_types_of (drop n c.types-text-items.result.now))) whole
     ∙ ap (λ (ts : List TypeText). unknown_mention (types_in c.args.names.now) (declared_types_of ts))
     (drop-length c.types-text-items.result.now) in
-    let rows : rows_of c.loop-text.rows.items ≡ mention_graph (types_in c.args.names.now) =
+    let rows : graph_rows_of c.loop-text.rows.items ≡ mention_graph (types_in c.args.names.now) =
     c.loop-text.invariant.1
     ∙ ap (λ n. map (λ (t : DeclaredType). type_numbers (types_in c.args.names.now) (mentions_in t.body))
     (declared_types_of (take n c.types-text-items.result.now))) whole
     ∙ ap (λ (ts : List TypeText). map (λ (t : DeclaredType). type_numbers (types_in c.args.names.now) (mentions_in t.body))
     (declared_types_of ts))
     (take-length c.types-text-items.result.now ∙ c.types-text-items.ensures) in
-    graph_within (types_in c.args.names.now) (rows_of c.loop-text.rows.items) known rows
+    graph_within (types_in c.args.names.now) (graph_rows_of c.loop-text.rows.items) known rows

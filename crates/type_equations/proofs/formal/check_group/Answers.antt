@@ -1,6 +1,6 @@
 use Rattle.std.proofs.Common.{◌≡◌, true, length, refl, arith}
 use Rattle.std.proofs.lemmas.Result.{err_from_is_err_and}
-use Rattle.syntax_trees.specs.TreeViews.{equation_of, group_of}
+use Rattle.syntax_trees.specs.TreeViews.{written_equation_of, group_of}
 use Rattle.type_definitions.proofs.HoldsLemmas.{holds_weaker}
 use Rattle.type_definitions.specs.DeclaredEquations.{none_asked}
 use Rattle.type_equations.specs.SectionScope.{asked_in, question_in}
@@ -25,7 +25,7 @@ check_equation-requires c =
     let written = c.requires.1 in
     let is = c.requires.2 in (
       p,
-      asked_in written (group_of c.args.group.now) (equation_of c.equation-item.result),
+      asked_in written (group_of c.args.group.now) (written_equation_of c.equation-item.result),
       is.same,
       (c.in_ok-scope.ensures p written is.same is.given is.variables_are).1,
     )
@@ -33,10 +33,11 @@ check_equation-requires c =
 pub loop-equation-preserved : goal.loop-equation-preserved
 loop-equation-preserved c = λ p written is truth.
     let scope = c.in_ok-scope.ensures p written is.same is.given is.variables_are in
-    given_next equation_of (question_in true written (group_of c.args.group.now)) p p p c.deref-equation-items.result.now
+    given_next written_equation_of (question_in true written (group_of c.args.group.now)) p p p c.deref-equation-items.result.now
     c.loop-equation.equation-index c.equation-item.result c.loop-equation-test.true c.equation-item.is
     (c.loop-equation.invariant p written is truth)
-    (c.in_ok-check_equation.ensures p (asked_in written (group_of c.args.group.now) (equation_of c.equation-item.result)) is.same scope.1
+    (c.in_ok-check_equation.ensures p (asked_in written (group_of c.args.group.now) (written_equation_of c.equation-item.result))
+    is.same scope.1
     truth refl)
 
 pub returns-in_err-check_equation : goal.returns-in_err-check_equation
@@ -47,10 +48,11 @@ returns-in_err-check_equation c =
     holds_weaker _ _ c.in_err-check_equation.field-0.0
     (λ f found type_name.
     group_fault true written c.args.group.now type_name p c.deref-equation-items.result.now f c.deref-equation-items.ensures.value scope.0
-    (fault_next equation_of (question_in true written (group_of c.args.group.now)) type_name p p c.deref-equation-items.result.now
+    (fault_next written_equation_of (question_in true written (group_of c.args.group.now)) type_name p p c.deref-equation-items.result.now
     c.loop-equation.equation-index c.equation-item.result f c.loop-equation-test.true c.equation-item.is
     (c.loop-equation.invariant p written is truth) (found type_name)))
-    (c.in_err-check_equation.ensures p (asked_in written (group_of c.args.group.now) (equation_of c.equation-item.result)) is.same scope.1
+    (c.in_err-check_equation.ensures p (asked_in written (group_of c.args.group.now) (written_equation_of c.equation-item.result))
+    is.same scope.1
     truth refl))
 
 pub returns : goal.returns

@@ -1,6 +1,6 @@
 use Rattle.std.proofs.Common.{Vec, Global, ◌≡◌, true, List, [], length, refl, ap, subst, arith}
 use Rattle.std.proofs.lemmas.Result.{err_from_is_err_and}
-use Rattle.syntax_trees.specs.TreeViews.{group_of, variables_of}
+use Rattle.syntax_trees.specs.TreeViews.{group_of, written_variables_of}
 use Rattle.syntax_trees.specs.declared.named.VarText.{VarText}
 use Rattle.sort_terms.specs.ReaderView.{signature_read}
 use Rattle.sort_terms.specs.declared.equations.Variable.{Variable as CodeVariable}
@@ -19,7 +19,7 @@ returns-in_err-add_variables c =
     holds_weaker _ _ c.in_err-add_variables.field-0.0
     (λ f found type_name.
     section_sorts_fault true c.args.section.now type_name p f
-    (subst (λ (vs : List VarText). HasFirstFault type_name p (asked_of_variables (variables_of vs)) f) c.as_slice.ensures.value
+    (subst (λ (vs : List VarText). HasFirstFault type_name p (asked_of_variables (written_variables_of vs)) f) c.as_slice.ensures.value
     (found type_name)))
     (c.in_err-add_variables.ensures p same))
 
@@ -31,7 +31,7 @@ check_group-requires c =
     let p : Presentation =
     record { signature = signature_read c.args.reader.now; equations = []; formal_sorts = []; formal_operations = [] } in (
       p,
-      variables_of c.args.section.now.variables.items,
+      written_variables_of c.args.section.now.variables.items,
       section_is p (signature_read c.args.reader.now) c.args.section.now _ _ _ _ c.new-variables.ensures.items c.as_slice.ensures.value
           (ap (λ (v : Vec CodeVariable Global). v.items) c.in_ok-shared.ensures) refl (c.in_ok-add_variables.ensures p refl),
     )
@@ -41,9 +41,10 @@ loop-group-preserved c = λ p same truth.
     let here =
     section_is p (signature_read c.args.reader.now) c.args.section.now _ _ _ _ c.new-variables.ensures.items c.as_slice.ensures.value
     (ap (λ (v : Vec CodeVariable Global). v.items) c.in_ok-shared.ensures) same (c.in_ok-add_variables.ensures p same) in
-    groups_next group_of (asked_of_group true (variables_of c.args.section.now.variables.items)) p p p c.deref-group-items.result.now
+    groups_next group_of (asked_of_group true (written_variables_of c.args.section.now.variables.items)) p p p
+    c.deref-group-items.result.now
     c.loop-group.group-index c.group-item.result c.loop-group-test.true c.group-item.is (c.loop-group.invariant p same truth)
-    (c.in_ok-check_group.ensures p (variables_of c.args.section.now.variables.items) here truth)
+    (c.in_ok-check_group.ensures p (written_variables_of c.args.section.now.variables.items) here truth)
 
 pub returns-in_err-check_group : goal.returns-in_err-check_group
 returns-in_err-check_group c =
@@ -55,10 +56,10 @@ returns-in_err-check_group c =
     holds_weaker _ _ c.in_err-check_group.field-0.0
     (λ f found type_name.
     section_fault true c.args.section.now type_name p c.deref-group-items.result.now f c.deref-group-items.ensures.value here.given
-    (groups_fault group_of (asked_of_group true (variables_of c.args.section.now.variables.items)) type_name p p
+    (groups_fault group_of (asked_of_group true (written_variables_of c.args.section.now.variables.items)) type_name p p
     c.deref-group-items.result.now c.loop-group.group-index c.group-item.result f c.loop-group-test.true c.group-item.is
     (c.loop-group.invariant p same truth) (found type_name)))
-    (c.in_err-check_group.ensures p (variables_of c.args.section.now.variables.items) here truth))
+    (c.in_err-check_group.ensures p (written_variables_of c.args.section.now.variables.items) here truth))
 
 pub returns : goal.returns
 returns c = λ p same truth.

@@ -1,7 +1,7 @@
 use Rattle.std.proofs.Common.{◌≡◌, false, length, refl, ◌∙◌, arith}
 use Rattle.std.proofs.lemmas.Result.{err_from_is_err_and}
 use Rattle.lotos_base.specs.Name.{spelling}
-use Rattle.syntax_trees.specs.TreeViews.{equation_of, group_of}
+use Rattle.syntax_trees.specs.TreeViews.{written_equation_of, group_of}
 use Rattle.type_definitions.proofs.HoldsLemmas.{holds_weaker}
 use Rattle.type_definitions.specs.DeclaredEquations.{none_asked, own_asked}
 use Rattle.type_presentations.specs.PresentationView.{presentation_of}
@@ -38,7 +38,7 @@ add_equation-requires-clause-scoped c =
     let now = presentation_of c.loop-equation.presentation in
     let written = c.requires.section.0 in
     let is = c.requires.section.1 in
-    let asked = asked_in written (group_of c.args.group.now) (equation_of c.equation-item.result) in (
+    let asked = asked_in written (group_of c.args.group.now) (written_equation_of c.equation-item.result) in (
       asked,
       scope_for_over start now asked.variables asked.sort c.in_ok-scope.scope c.loop-equation.invariant.same
           (c.in_ok-scope.ensures start written is.same is.given is.variables_are).1,
@@ -52,10 +52,11 @@ loop-equation-preserved c =
     let new = presentation_of c.add_equation.new.presentation in
     let first = c.requires.section.0 in
     let first_is = c.requires.section.1 in
-    let first_asked = asked_in first (group_of c.args.group.now) (equation_of c.equation-item.result) in record {
+    let first_asked = asked_in first (group_of c.args.group.now) (written_equation_of c.equation-item.result) in record {
       given = λ written is.
-          let asked = asked_in written (group_of c.args.group.now) (equation_of c.equation-item.result) in
-          given_next equation_of (question_in false written (group_of c.args.group.now)) start now new c.deref-equation-items.result.now
+          let asked = asked_in written (group_of c.args.group.now) (written_equation_of c.equation-item.result) in
+          given_next written_equation_of (question_in false written (group_of c.args.group.now)) start now new
+          c.deref-equation-items.result.now
           c.loop-equation.equation-index c.equation-item.result c.loop-equation-test.true c.equation-item.is
           (c.loop-equation.invariant.given written is)
           (c.in_ok-add_equation.ensures.given asked
@@ -79,13 +80,13 @@ returns-in_err-add_equation-clause-given c =
     rw (e.1, e.2) (λ written is.
     let start = presentation_of c.args.presentation.now in
     let now = presentation_of c.loop-equation.presentation in
-    let asked = asked_in written (group_of c.args.group.now) (equation_of c.equation-item.result) in
+    let asked = asked_in written (group_of c.args.group.now) (written_equation_of c.equation-item.result) in
     let scope = c.in_ok-scope.ensures start written is.same is.given is.variables_are in
     holds_weaker _ _ c.in_err-add_equation.field-0.0
     (λ f found.
     group_fault false written c.args.group.now (spelling c.args.type_name.now) start c.deref-equation-items.result.now f
     c.deref-equation-items.ensures.value scope.0
-    (fault_next equation_of (question_in false written (group_of c.args.group.now)) (spelling c.args.type_name.now) start now
+    (fault_next written_equation_of (question_in false written (group_of c.args.group.now)) (spelling c.args.type_name.now) start now
     c.deref-equation-items.result.now c.loop-equation.equation-index c.equation-item.result f c.loop-equation-test.true c.equation-item.is
     (c.loop-equation.invariant.given written is) found))
     (c.in_err-add_equation.ensures.given asked

@@ -1,7 +1,7 @@
 use Rattle.std.proofs.Common.{Vec, Global, ◌≡◌, false, List, length, ap, subst, arith}
 use Rattle.std.proofs.lemmas.Result.{err_from_is_err_and}
 use Rattle.lotos_base.specs.Name.{spelling}
-use Rattle.syntax_trees.specs.TreeViews.{group_of, variables_of}
+use Rattle.syntax_trees.specs.TreeViews.{group_of, written_variables_of}
 use Rattle.syntax_trees.specs.declared.named.VarText.{VarText}
 use Rattle.sort_terms.specs.ReaderView.{signature_read}
 use Rattle.sort_terms.specs.declared.equations.Variable.{Variable as CodeVariable}
@@ -22,7 +22,8 @@ returns-in_err-add_variables-clause-given c =
     section_sorts_fault false c.args.section.now (spelling c.args.type_name.now) (presentation_of c.args.presentation.now) f
     (subst
     (λ (vs : List VarText).
-    HasFirstFault (spelling c.args.type_name.now) (presentation_of c.args.presentation.now) (asked_of_variables (variables_of vs)) f)
+    HasFirstFault (spelling c.args.type_name.now) (presentation_of c.args.presentation.now)
+    (asked_of_variables (written_variables_of vs)) f)
     c.as_slice.ensures.value (found (spelling c.args.type_name.now))))
     (c.in_err-add_variables.ensures (presentation_of c.args.presentation.now) c.requires.same))
 
@@ -37,7 +38,7 @@ pub add_group-requires-clause-section : goal.add_group-requires-clause-section
 add_group-requires-clause-section c =
     let start = presentation_of c.args.presentation.now in
     let now = presentation_of c.loop-group.presentation in
-    let written = variables_of c.args.section.now.variables.items in (
+    let written = written_variables_of c.args.section.now.variables.items in (
       written,
       section_over start now written (signature_read c.args.reader.now) _
           (give_all_same start now _ c.loop-group.invariant.given)
@@ -50,7 +51,7 @@ pub loop-group-preserved : goal.loop-group-preserved
 loop-group-preserved c =
     let start = presentation_of c.args.presentation.now in
     let now = presentation_of c.loop-group.presentation in
-    let written = variables_of c.args.section.now.variables.items in record {
+    let written = written_variables_of c.args.section.now.variables.items in record {
       given =
           groups_next group_of (asked_of_group false written) start now (presentation_of c.add_group.new.presentation)
           c.deref-group-items.result.now c.loop-group.group-index c.group-item.result c.loop-group-test.true c.group-item.is
@@ -70,7 +71,7 @@ returns-in_err-add_group-clause-given c =
     let e = err_from_is_err_and c.from_residual-in_err-add_group.result c.from_residual-in_err-add_group.ensures.1 in
     let start = presentation_of c.args.presentation.now in
     let now = presentation_of c.loop-group.presentation in
-    let written = variables_of c.args.section.now.variables.items in
+    let written = written_variables_of c.args.section.now.variables.items in
     let here =
     section_is start (signature_read c.args.reader.now) c.args.section.now _ _ _ _ c.new-variables.ensures.items
     c.as_slice.ensures.value (ap (λ (v : Vec CodeVariable Global). v.items) c.in_ok-shared.ensures) c.requires.same

@@ -2,14 +2,14 @@ use Rattle.std.proofs.lemmas.Result.{err_from_is_err_and}
 use Rattle.lotos_base.specs.WrittenView.{written_term_of}
 use Rattle.std.proofs.Common.{sym, subst}
 use Rattle.lotos_base.specs.Signature.{Signature}
-use Rattle.syntax_trees.specs.TreeViews.{equation_of}
+use Rattle.syntax_trees.specs.TreeViews.{written_equation_of}
 use Rattle.syntax_trees.specs.WrittenEquation.{WrittenEquation}
 use Rattle.sort_terms.specs.ProfiledTerm.{IsOf}
 use Rattle.sort_terms.specs.ReaderView.{signature_read}
 use Rattle.sort_terms.specs.ScopeView.{variables_in}
 use Rattle.sort_terms.specs.SortedView.{profiled_in, term_in}
 use Rattle.type_definitions.proofs.HoldsLemmas.{refused_term}
-use Rattle.type_definitions.specs.DeclaredEquations.{fault_of, IsSide, IsFaultOfSides}
+use Rattle.type_definitions.specs.DeclaredEquations.{type_fault_of, IsSide, IsFaultOfSides}
 use Rattle.type_equations.proofs.SideLemmas.{side_read, side_refused, left_fault, right_fault, unless_weaker, of_expected_sort}
 use Rattle.type_equations.proofs.sides.read_sides.Goals as goal
 
@@ -20,7 +20,7 @@ returns-in_err-left c =
     refused_term (IsFaultOfSides p asked) c.in_err-left.field-0.0
     (unless_weaker _ _ c.in_err-left.field-0.0
     (λ r refused.
-    left_fault p asked (equation_of c.args.equation.now) (fault_of r) is
+    left_fault p asked (written_equation_of c.args.equation.now) (type_fault_of r) is
     (side_refused p asked (signature_read c.args.reader.now) (variables_in c.args.scope.now.scope.now) c.args.scope.now.sort
     (written_term_of c.args.equation.now.left) r same scope.scope_is scope.sort_is refused))
     c.in_err-left.ensures.refused))
@@ -36,7 +36,7 @@ returns-in_err-right c =
     refused_term (IsFaultOfSides p asked) c.in_err-right.field-0.0
     (unless_weaker _ _ c.in_err-right.field-0.0
     (λ r refused.
-    right_fault p asked (equation_of c.args.equation.now) (term_in c.in_ok-left.left) (fault_of r) is one
+    right_fault p asked (written_equation_of c.args.equation.now) (term_in c.in_ok-left.left) (type_fault_of r) is one
     (side_refused p asked (signature_read c.args.reader.now) (variables_in c.args.scope.now.scope.now) c.args.scope.now.sort
     (written_term_of c.args.equation.now.right) r same scope.scope_is scope.sort_is refused))
     c.in_err-right.ensures.refused))

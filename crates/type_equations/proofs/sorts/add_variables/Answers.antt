@@ -4,7 +4,7 @@ use Rattle.std.proofs.lemmas.Result.{err_from_is_err_and}
 use Rattle.lotos_base.proofs.Pieces.{take_whole}
 use Rattle.lotos_base.specs.Name.{spelling}
 use Rattle.lotos_base.specs.Equation.{Variable}
-use Rattle.syntax_trees.specs.TreeViews.{variables_of}
+use Rattle.syntax_trees.specs.TreeViews.{written_variables_of}
 use Rattle.syntax_trees.specs.declared.named.VarText.{VarText}
 use Rattle.sort_terms.specs.EquationView.{variable_of}
 use Rattle.type_definitions.proofs.HoldsLemmas.{holds_weaker}
@@ -41,7 +41,7 @@ returns-in_err-sort c =
     rw (p.1, p.2) (λ q same.
     holds_weaker _ _ c.in_err-sort.field-0.0
     (λ f found type_name.
-    subst (λ (g : TypeFault). HasFirstFault type_name q (asked_of_variables (variables_of c.args.written.now)) g) (sym found.1)
+    subst (λ (g : TypeFault). HasFirstFault type_name q (asked_of_variables (written_variables_of c.args.written.now)) g) (sym found.1)
     (faulty_here type_name q c.args.written.now c.loop-text.text-index c.text-item.result c.loop-text-test.true c.text-item.is
     (c.loop-text.invariant q same).0 found.0))
     (c.in_err-sort.ensures q same))
@@ -50,7 +50,7 @@ pub returns : goal.returns
 returns c = λ p same.
     let all : c.loop-text.text-index ≡ length c.args.written.now = omega arith in
     subst
-    (λ (vs : List VarText). GiveAll p (asked_of_variables (variables_of vs)) p
+    (λ (vs : List VarText). GiveAll p (asked_of_variables (written_variables_of vs)) p
     × (map variable_of c.loop-text.variables.items
-    ≡ map variable_of c.args.variables.now.items ++ scope_from p (length c.args.variables.now.items) (variables_of vs)))
+    ≡ map variable_of c.args.variables.now.items ++ scope_from p (length c.args.variables.now.items) (written_variables_of vs)))
     (take_whole c.args.written.now c.loop-text.text-index all) (c.loop-text.invariant p same)

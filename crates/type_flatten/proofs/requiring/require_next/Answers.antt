@@ -3,7 +3,7 @@ use Rattle.type_definitions.specs.Actualisation.{is_formal}
 use Rattle.type_definitions.specs.FormalEquations.{FlattenedType}
 use Rattle.type_definitions.specs.Union.{Mentioned}
 use Rattle.type_presentations.specs.PresentationView.{presentation_of}
-use Rattle.type_flatten.specs.FormalTypesView.{required_union}
+use Rattle.type_actualisation.specs.FormalTypesView.{required_union}
 use Rattle.type_flatten.proofs.AllFormalLemmas.{formal_skipped, informal_added}
 use Rattle.type_flatten.proofs.requiring.require_next.Goals as goal
 

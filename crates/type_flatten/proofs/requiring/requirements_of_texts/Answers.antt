@@ -1,7 +1,7 @@
 use Rattle.std.proofs.Common.{List, sym, subst}
 use Rattle.sort_terms.specs.declared.equations.Equation.{Equation}
 use Rattle.type_definitions.specs.TypeView.{declared_types_of}
-use Rattle.type_flatten.specs.FormalTypesView.{AreRequiredInOrder}
+use Rattle.type_actualisation.specs.FormalTypesView.{AreRequiredInOrder}
 use Rattle.type_flatten.proofs.requiring.requirements_of_texts.Goals as goal
 
 pub require_all-requires : goal.require_all-requires

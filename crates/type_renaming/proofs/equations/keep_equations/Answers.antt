@@ -1,6 +1,6 @@
 use Rattle.std.proofs.Common.{◌≡◌, List, length, map, ap, sym, subst, ◌∙◌, arith}
 use Rattle.lotos_base.proofs.Pieces.{take_whole}
-use Rattle.lotos_base.proofs.Members.{at_map}
+use Rattle.lotos_base.proofs.Members.{at_map, read_member_of}
 use Rattle.lotos_base.specs.Signature.{Signature}
 use Rattle.lotos_base.specs.Equation.{Equation}
 use Rattle.sort_terms.specs.EquationView.{equation_of}
@@ -14,7 +14,6 @@ use Rattle.type_definitions.specs.DeclaredEquations.{with_equation}
 use Rattle.type_definitions.proofs.FaultLemmas.{few_members}
 use Rattle.type_presentations.specs.PresentationView.{presentation_of}
 use Rattle.type_presentations.proofs.SizeLemmas.{within_limits}
-use Rattle.type_presentations.proofs.EquationListLemmas.{element_of}
 use Rattle.type_renaming.specs.Parts.{KeepsProfilesOf, with_equations}
 use Rattle.type_renaming.proofs.KeptLemmas.{as_long, no_equations, more_equations}
 use Rattle.type_renaming.proofs.PartLemmas.{shared}
@@ -53,14 +52,14 @@ keep_equation-requires-clause-over c =
     c.requires.whole.data_.equations (equation_of c.equation-item.result) (
       c.loop-equation.equation-index,
       at_map equation_of c.args.base.now.equations.equations.items c.loop-equation.equation-index c.equation-item.result
-          (element_of c.equations-equations.result.now c.args.base.now.equations.equations.items c.loop-equation.equation-index
+          (read_member_of c.equations-equations.result.now c.args.base.now.equations.equations.items c.loop-equation.equation-index
           c.equation-item.result c.equations-equations.ensures.same c.loop-equation-test.true c.equation-item.is),
     )
 
 pub keep_equation-requires-clause-sides : goal.keep_equation-requires-clause-sides
 keep_equation-requires-clause-sides c =
     c.requires.whole.sides c.loop-equation.equation-index c.equation-item.result
-    (element_of c.equations-equations.result.now c.args.base.now.equations.equations.items c.loop-equation.equation-index
+    (read_member_of c.equations-equations.result.now c.args.base.now.equations.equations.items c.loop-equation.equation-index
     c.equation-item.result c.equations-equations.ensures.same c.loop-equation-test.true c.equation-item.is)
 
 pub loop-equation-preserved : goal.loop-equation-preserved

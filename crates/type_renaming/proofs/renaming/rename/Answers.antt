@@ -10,7 +10,7 @@ use Rattle.type_definitions.specs.FaultView.{IsFaultFound}
 use Rattle.type_definitions.specs.declared.type_faults.TypeFault.{TypeFault as CodeFault}
 use Rattle.type_definitions.specs.declared.type_faults.TypeFault.TheVariants.{NoMemory}
 use Rattle.type_definitions.specs.Presentation.{Presentation}
-use Rattle.type_definitions.specs.Renaming.{renaming, renaming_fault}
+use Rattle.type_definitions.specs.Renaming.{renamed_presentation, renaming_fault}
 use Rattle.type_definitions.proofs.FaultLemmas.{first_fails}
 use Rattle.type_presentations.specs.PresentationView.{IsSound, IsWithinLimits, presentation_of}
 use Rattle.type_presentations.specs.declared.presentations.Presentation.{Presentation as CodePresentation}
@@ -25,7 +25,7 @@ refused : (base : Presentation) (t : List ℕ) (pairs : WrittenPairs) (fault : C
 refused base t pairs fault h = record { found = h }
 
 is_renamed : (base : Presentation) (t : List ℕ) (pairs : WrittenPairs) (p : CodePresentation) → renaming_fault base t pairs ≡ None
-    → presentation_of p ≡ renaming base t pairs → IsSound p → IsWithinLimits p → IsRenamed base t pairs p
+    → presentation_of p ≡ renamed_presentation base t pairs → IsSound p → IsWithinLimits p → IsRenamed base t pairs p
 is_renamed base t pairs p none made sound within = record { none = none; made = made; sound = sound; within = within }
 
 pub returns-in_err-sort_names : goal.returns-in_err-sort_names

@@ -10,7 +10,7 @@ use Rattle.sort_terms.specs.WellFormedTest.{are_one_sort}
 use Rattle.sort_terms.specs.declared.operations.Sort.{Sort as CodeSort}
 use Rattle.type_definitions.specs.TypeFault.{TypeFault, double_sort}
 use Rattle.type_definitions.specs.Presentation.{Presentation, is_too_large}
-use Rattle.type_definitions.specs.Renaming.{clash_among, pair_for, renamed_sort, renaming}
+use Rattle.type_definitions.specs.Renaming.{clash_among, pair_for, renamed_sort, renamed_presentation}
 use Rattle.type_definitions.proofs.HoldsLemmas.{holds_weaker}
 use Rattle.type_definitions.proofs.WalkLemmas.{looked_on, looked_at, none_of, so_far}
 use Rattle.type_presentations.specs.Growth.{with_one_sort}
@@ -29,12 +29,13 @@ clashes t ps earlier xs =
     (λ (s : Sort). pair_for ps.sort_pairs s.name) double_sort earlier xs
 
 -- one more sort
-grown : (t : List ℕ) (ps : WrittenPairs) (xs ys : List Sort) (s : Sort) (p q : Presentation) → p ≡ renaming (sorts_alone xs) t ps
-    → q ≡ with_one_sort p (renamed_sort t ps s) → ys ≡ xs ++ s ∷ [] → q ≡ renaming (sorts_alone ys) t ps
+grown : (t : List ℕ) (ps : WrittenPairs) (xs ys : List Sort) (s : Sort) (p q : Presentation)
+    → p ≡ renamed_presentation (sorts_alone xs) t ps
+    → q ≡ with_one_sort p (renamed_sort t ps s) → ys ≡ xs ++ s ∷ [] → q ≡ renamed_presentation (sorts_alone ys) t ps
 grown t ps xs ys s p q is more longer =
     more ∙ ap (λ (r : Presentation). with_one_sort r (renamed_sort t ps s)) is
     ∙ ap (λ (zs : List Sort). sorts_alone zs) (sym (map-append (renamed_sort t ps) xs (s ∷ [])))
-    ∙ ap (λ (zs : List Sort). renaming (sorts_alone zs) t ps) (sym longer)
+    ∙ ap (λ (zs : List Sort). renamed_presentation (sorts_alone zs) t ps) (sym longer)
 
 pub loop-number-init : goal.loop-number-init
 loop-number-init c = (c.new-renamed.ensures.sound, c.new-renamed.ensures.nothing, refl)
@@ -91,7 +92,8 @@ returns c =
     let all : c.loop-number.number ≡ length c.args.base.now = omega arith in
     let made =
     c.loop-number.invariant.1
-    ∙ ap (λ (ss : List CodeSort). renaming (sorts_alone (map sort_of ss)) t ps) (take_whole c.args.base.now c.loop-number.number all) in (
+    ∙ ap (λ (ss : List CodeSort). renamed_presentation (sorts_alone (map sort_of ss)) t ps)
+    (take_whole c.args.base.now c.loop-number.number all) in (
       sym c.loop-number.invariant.2
           ∙ ap (λ (ss : List Sort). clashes t ps (map sort_of (take c.loop-number.number c.args.base.now)) ss)
           (none_of sort_of c.args.base.now c.loop-number.number (omega (arith, c.loop-number-test.false))),

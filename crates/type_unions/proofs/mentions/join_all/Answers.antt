@@ -2,7 +2,7 @@ use Rattle.std.proofs.Common.{◌+◌, List, drop, ap}
 use Rattle.std.proofs.lemmas.Result.{err_from_is_err_and}
 use Rattle.std.proofs.lemmas.List.{drop_all}
 use Rattle.lotos_base.proofs.Pieces.{next_member}
-use Rattle.type_presentations.proofs.EquationListLemmas.{element_at}
+use Rattle.lotos_base.proofs.Members.{read_member}
 use Rattle.type_unions.specs.MentionView.{mentioned_of, mentions_of}
 use Rattle.type_unions.specs.declared.mentions.Mention.{Mention}
 use Rattle.type_unions.proofs.MentionLemmas.{at_the_start, joined_next, refused_next, all_united}
@@ -15,7 +15,7 @@ loop-mention-init c =
 pub join-requires : goal.join-requires
 join-requires c =
     let found =
-    element_at c.args.mentions.now c.loop-mention.mention-index c.mention-item.result c.loop-mention-test.true c.mention-item.is in
+    read_member c.args.mentions.now c.loop-mention.mention-index c.mention-item.result c.loop-mention-test.true c.mention-item.is in
     record {
       sound = c.loop-mention.invariant.sound;
       within = c.loop-mention.invariant.within;

@@ -1,7 +1,7 @@
 use Rattle.std.proofs.Common.{◌++◌, ◌∙◌}
 use Rattle.std.proofs.lemmas.Result.{on_ok_weaker}
 use Rattle.event_offers.specs.OfferView.{plain_entry}
-use Rattle.value_lists.specs.InstanceList.{lists_of}
+use Rattle.value_lists.specs.InstanceList.{term_lists_of}
 use Rattle.value_lists.specs.ListText.{instance_list_text}
 use Rattle.value_lists.specs.ListView.{printing_with}
 use Rattle.value_lists.proofs.AnswerLemmas.{instances_added, ways_added}
@@ -12,13 +12,13 @@ returns-in-Ok-clause-added g c = λ basis menu size is at has.
     on_ok_weaker c.push_instances.result
     (λ added.
     instances_added basis (g.D.Deciding.known_data c.args.decider.now) (g.D.Deciding.canon c.args.decider.now) c.args.gates.now is menu
-    c.args.number size c.args.entry.now (lists_of c.args.choices.now) at has c.args.signature.now (lists_of c.in-Ok.tuples.items)
+    c.args.number size c.args.entry.now (term_lists_of c.args.choices.now) at has c.args.signature.now (term_lists_of c.in-Ok.tuples.items)
     c.args.into.now.items c.push_instances.new.into.items c.requires.shown c.requires.sides c.in-Ok.ensures.instances
     c.in-Ok.ensures.few
     (added
     ∙ (λ i. c.args.into.now.items
     ++ instance_list_text (printing_with c.args.signature.now c.args.gates.now (c.in-Ok.ensures.same_known.same_canon i))
-    c.args.number (plain_entry c.args.entry.now) (lists_of (c.as_slice.ensures.value i)))))
+    c.args.number (plain_entry c.args.entry.now) (term_lists_of (c.as_slice.ensures.value i)))))
     c.push_instances.ensures.added
 
 pub returns-in-Err-TooManyInstances-clause-added : goal.returns-in-Err-TooManyInstances-clause-added
@@ -26,6 +26,6 @@ returns-in-Err-TooManyInstances-clause-added g c = λ basis menu size is at has.
     on_ok_weaker c.push_text.result
     (λ added.
     ways_added basis (g.D.Deciding.known_data c.args.decider.now) (g.D.Deciding.canon c.args.decider.now) c.args.gates.now is menu
-    c.args.number size c.args.entry.now (lists_of c.args.choices.now) at has c.args.into.now.items c.push_text.new.into.items
+    c.args.number size c.args.entry.now (term_lists_of c.args.choices.now) at has c.args.into.now.items c.push_text.new.into.items
     (rw c.in-Err-TooManyInstances.field-0-is at c.in-Err-TooManyInstances.ensures.fault) added)
     c.push_text.ensures

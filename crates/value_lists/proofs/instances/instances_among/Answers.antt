@@ -4,7 +4,7 @@ use Rattle.lotos_base.specs.Equation.{Data}
 use Rattle.event_offers.specs.Instances.{AreValuesOver}
 use Rattle.event_offers.proofs.KeepingLemmas.{keeps_both}
 use Rattle.sort_terms.specs.SortedView.{term_in}
-use Rattle.value_lists.specs.InstanceList.{AreTuplesOver, lists_of, profiles_in}
+use Rattle.value_lists.specs.InstanceList.{AreTuplesOver, term_lists_of, profiled_lists_in}
 use Rattle.value_lists.specs.Tried.{IsTried}
 use Rattle.value_lists.specs.Tuples.{tuple_count}
 use Rattle.value_lists.proofs.InstanceLemmas.{all_tuples, sifted_more, SiftedUpTo, tuple_values}
@@ -12,7 +12,7 @@ use Rattle.value_lists.proofs.instances.instances_among.Goals as goal
 
 pub add_if_met-requires-clause-values : goal.add_if_met-requires-clause-values
 add_if_met-requires-clause-values g c =
-    let less : c.loop-number.number < tuple_count (profiles_in c.args.choices.now) =
+    let less : c.loop-number.number < tuple_count (profiled_lists_in c.args.choices.now) =
     omega (arith, c.loop-number-test.true, c.requires.count) in
     subst (λ (d : Data). AreValuesOver d.signature c.args.entry.now.vars.items c.in_ok-one.one.items)
     (sym c.loop-number.invariant.2.same_data)
@@ -24,8 +24,8 @@ loop-number-preserved g c =
     let same = c.loop-number.invariant.2.same_data in (
       sifted_more (g.D.Deciding.known_data c.args.decider.now) c.args.entry.now c.args.choices.now c.loop-number.number
           c.in_ok-one.one.items c.loop-number.found.items c.add_if_met.new.found.items c.loop-number.invariant.0 c.in_ok-one.ensures
-          (subst (λ (d : Data). IsTried d c.args.entry.now (map term_in c.in_ok-one.one.items) (lists_of c.loop-number.found.items)
-          (lists_of c.add_if_met.new.found.items)) same c.in_ok-add_if_met.ensures.tried),
+          (subst (λ (d : Data). IsTried d c.args.entry.now (map term_in c.in_ok-one.one.items) (term_lists_of c.loop-number.found.items)
+          (term_lists_of c.add_if_met.new.found.items)) same c.in_ok-add_if_met.ensures.tried),
       subst (λ (d : Data). AreTuplesOver d.signature c.args.entry.now.vars.items c.add_if_met.new.found.items) same
           (c.in_ok-add_if_met.ensures.values
           (subst (λ (d : Data). AreTuplesOver d.signature c.args.entry.now.vars.items c.loop-number.found.items) (sym same)

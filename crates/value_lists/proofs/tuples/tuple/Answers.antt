@@ -2,7 +2,7 @@
 use Rattle.std.proofs.Common.{ℕ, ◌≡◌, ◌+◌, ◌/◌, ◌%◌, ◌<◌, ◌++◌, drop, length, get_or, arith, sym, ◌∙◌, subst}
 use Rattle.behaviour_tree.specs.BehaviourTerms.{profiles_of}
 use Rattle.sort_terms.specs.ProfiledTerm.{profiled_variable}
-use Rattle.value_lists.specs.InstanceList.{profiles_in}
+use Rattle.value_lists.specs.InstanceList.{profiled_lists_in}
 use Rattle.value_lists.specs.TupleNumbers.{tuple_at}
 use Rattle.value_lists.specs.Tuples.{tuple_count}
 use Rattle.value_lists.proofs.TupleCodeLemmas.{next_of, tuple_step}
@@ -46,16 +46,16 @@ loop-choice-preserved c =
     let next = next_of c.args.choices.now c.loop-choice.choice-index c.loop-choice.rest c.loop-choice.place c.choice-item.result
     c.loop-choice-test.true c.choice-item.is
     (record { rest_is = c.loop-choice.invariant.0; below = c.loop-choice.invariant.1 }) in
-    subst (λ (n : ℕ). (c.loop-choice.rest / n ≡ tuple_count (drop (c.loop-choice.choice-index + 1) (profiles_in c.args.choices.now)))
+    subst (λ (n : ℕ). (c.loop-choice.rest / n ≡ tuple_count (drop (c.loop-choice.choice-index + 1) (profiled_lists_in c.args.choices.now)))
     × (c.loop-choice.place % (c.loop-choice.rest / n) < c.loop-choice.rest / n)
-    × (profiles_of c.push.new.self.items ++ tuple_at (drop (c.loop-choice.choice-index + 1) (profiles_in c.args.choices.now))
+    × (profiles_of c.push.new.self.items ++ tuple_at (drop (c.loop-choice.choice-index + 1) (profiled_lists_in c.args.choices.now))
     (c.loop-choice.place % (c.loop-choice.rest / n)) (profiled_variable 0 0)
-    ≡ tuple_at (profiles_in c.args.choices.now) c.args.number (profiled_variable 0 0))) (sym same) (
+    ≡ tuple_at (profiled_lists_in c.args.choices.now) c.args.number (profiled_variable 0 0))) (sym same) (
       next.width,
       next.below,
       tuple_step c.args.choices.now c.loop-choice.choice-index c.loop-choice.rest c.loop-choice.place c.choice-item.result
           c.loop-choice.tuple.items c.push.new.self.items c.in_ok-copy.field-0 c.index.result.now
-          (tuple_at (profiles_in c.args.choices.now) c.args.number (profiled_variable 0 0)) c.loop-choice-test.true c.choice-item.is
+          (tuple_at (profiled_lists_in c.args.choices.now) c.args.number (profiled_variable 0 0)) c.loop-choice-test.true c.choice-item.is
           (record { rest_is = c.loop-choice.invariant.0; below = c.loop-choice.invariant.1 }) c.in_ok-push.ensures.items
           c.in_ok-copy.ensures
           (subst (λ (n : ℕ). c.index.result.now ≡ get_or c.choice-item.result.items (c.loop-choice.place / (c.loop-choice.rest / n))

@@ -3,7 +3,7 @@ use Rattle.std.proofs.Common.{◌≡◌, length, arith, ap, sym, ◌∙◌, map}
 use Rattle.path_order.specs.RulesView.{plain_rules_in}
 use Rattle.sort_terms.specs.Operations.{operation_of}
 use Rattle.sort_terms.specs.SignatureView.{signature_of}
-use Rattle.value_lists.specs.FoundView.{operations_in}
+use Rattle.value_lists.specs.FoundView.{shared_operations_in}
 use Rattle.value_lists.specs.TrialView.{profiled_value, values_in}
 use Rattle.value_lists.specs.declared.limits.TheConstants.{MAX_VALUES}
 use Rattle.value_lists.proofs.CodeLemmas.{fault_handed}
@@ -14,8 +14,8 @@ pub returns-in_err-extend-clause-fault : goal.returns-in_err-extend-clause-fault
 returns-in_err-extend-clause-fault c =
     fault_handed c.from_residual-in_err-extend.result c.in_err-extend.field-0.0 _ _ c.from_residual-in_err-extend.ensures.1
     (full_up_to (signature_of c.args.signature.now) (plain_rules_in c.args.rules.now) c.loop-smaller.smaller c.args.size MAX_VALUES
-    (operations_in c.as_slice.result.now) (values_in c.loop-smaller.values.items)
-    (ap operations_in c.as_slice.ensures.value ∙ c.in_ok-profiles.ensures ∙ ap (map operation_of) c.ops.ensures)
+    (shared_operations_in c.as_slice.result.now) (values_in c.loop-smaller.values.items)
+    (ap shared_operations_in c.as_slice.ensures.value ∙ c.in_ok-profiles.ensures ∙ ap (map operation_of) c.ops.ensures)
     c.loop-smaller.invariant.0 c.loop-smaller-test.true)
     c.in_err-extend.ensures.fault
 

@@ -6,7 +6,8 @@ use Rattle.lotos_base.proofs.SubstitutionLemmas.{ground_no_variable}
 use Rattle.behaviour_semantics.specs.Alike.{AlikeTerms}
 use Rattle.behaviour_semantics.proofs.OptionLemmas.{some_value}
 use Rattle.certificate_theory.specs.SameSorts.{AreOfOneSort}
-use Rattle.worked_cases.specs.BehaviourSamples.{sample_signature, sample_data, empty_sort, nat_sort, nought, one}
+use Rattle.lotos_base.specs.SmallData.{nought}
+use Rattle.worked_cases.specs.BehaviourSamples.{sample_signature, sample_data, empty_sort, nat_sort, one}
 use Rattle.worked_cases.proofs.TermTests.{term_passes, ground_in}
 use Rattle.worked_cases.proofs.CaseLemmas.{no_value, nought_not_one}
 use Rattle.worked_cases.proofs.bisimulation_cases.alike_says_nothing_of_sorts.Goals as goal

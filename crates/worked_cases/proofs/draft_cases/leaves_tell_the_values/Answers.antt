@@ -5,7 +5,8 @@ use Rattle.lotos_base.specs.Sorting.{HasSort, Occurs}
 use Rattle.lotos_base.specs.Equality.{same_term}
 use Rattle.behaviour_semantics.specs.DraftOrder.{IsLeaf, HasLeafVariables}
 use Rattle.behaviour_semantics.proofs.OptionLemmas.{some_value}
-use Rattle.worked_cases.specs.BehaviourSamples.{nat_sort, nought, one, two, succ, nat, sample_signature}
+use Rattle.lotos_base.specs.SmallData.{nought}
+use Rattle.worked_cases.specs.BehaviourSamples.{nat_sort, one, two, succ, nat, sample_signature}
 use Rattle.worked_cases.proofs.TermTests.{values_in}
 use Rattle.worked_cases.proofs.draft_cases.leaves_tell_the_values.Goals as goal
 

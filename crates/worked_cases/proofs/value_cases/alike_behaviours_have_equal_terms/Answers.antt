@@ -5,16 +5,17 @@ use Rattle.lotos_base.specs.Sorting.{IsGroundOf}
 use Rattle.lotos_base.proofs.SubstitutionLemmas.{ground_no_variable}
 use Rattle.lotos_base.proofs.CanonLemmas.{canon_tells}
 use Rattle.behaviour_semantics.specs.Alike.{AlikeTerms}
-use Rattle.worked_cases.specs.BehaviourSamples.{nat_sort, sample_signature, sample_data, sample_canon, nought, one, plus, nat}
+use Rattle.lotos_base.specs.SmallData.{nought}
+use Rattle.worked_cases.specs.BehaviourSamples.{nat_sort, sample_signature, sample_data, sample_canon, one, sample_plus, nat}
 use Rattle.worked_cases.proofs.SampleCanon.{sample_is_canon}
 use Rattle.worked_cases.proofs.TermTests.{term_passes, ground_in}
 use Rattle.worked_cases.proofs.CaseLemmas.{sum_ground, sum_is_one, nought_not_one}
 use Rattle.worked_cases.proofs.value_cases.alike_behaviours_have_equal_terms.Goals as goal
 
-sum_with_nought_is_the_same : AlikeTerms sample_data (plus (nat 0) nought) (nat 0)
+sum_with_nought_is_the_same : AlikeTerms sample_data (sample_plus (nat 0) nought) (nat 0)
 sum_with_nought_is_the_same values h k =
     let value : Term = values 0 nat_sort in
-    canon_tells sample_data sample_canon (plus value nought) value nat_sort sample_is_canon
+    canon_tells sample_data sample_canon (sample_plus value nought) value nat_sort sample_is_canon
     (sum_ground value nought (k 0 nat_sort (refl, refl)) (ground_in sample_signature nat_sort nought refl)) (k 0 nat_sort (refl, refl)) refl
 
 -- nothing is put for the variables of a closed term

@@ -10,7 +10,7 @@ use Rattle.behaviour_tree.proofs.ClosedLemmas.{terms_both}
 use Rattle.lotos_base.specs.Name.{spelling}
 use Rattle.lotos_base.specs.WrittenView.{text_place_of}
 use Rattle.sort_terms.specs.EquationView.{variable_of}
-use Rattle.syntax_trees.specs.TreeViews.{behaviour_at, behaviour_of as written_behaviour, gate_choices_of, lets_of, offer_of as written_offer, placed_names_of, premiss_of, sign_of, variables_of}
+use Rattle.syntax_trees.specs.TreeViews.{written_behaviour_at, written_behaviour_of as written_behaviour, gate_choices_of, lets_of, written_offer_of as written_offer, placed_names_of, premiss_of, sign_of, written_variables_of}
 use Rattle.syntax_trees.specs.WrittenBehaviour as written
 use Rattle.syntax_trees.specs.WrittenBehaviour.{WrittenSign, choice_sign, interleaving, full_synchronisation, synchronising, disabling, enabling}
 use Rattle.syntax_trees.specs.declared.behaviours.BehForm.{BehForm}
@@ -20,11 +20,11 @@ use Rattle.lotos_base.specs.Equation.{Variable}
 use Rattle.scope_parts.specs.Choices.{under_gates, under_par, under_values}
 use Rattle.scope_parts.specs.FaultView.{Answers}
 use Rattle.scope_parts.specs.GatesView.{choice_in, gates_in, pars_in}
-use Rattle.scope_parts.specs.Numbering.{accepted, asked_for, choice_names, each_once, gates_in as gates_of, spelled, variable_count}
+use Rattle.scope_parts.specs.Numbering.{accepted, asked_for, choice_names, each_once, gates_in as gates_of, spelled_names, variable_count}
 use Rattle.scope_parts.specs.Resolution.{Resolution, resolved}
 use Rattle.scope_parts.proofs.AnswerLemmas.{err_is, means_map}
 use Rattle.scope_parts.proofs.FormedLists.{HaveSorts}
-use Rattle.behaviour_scopes.specs.ResolverState.{BehaviourStandsFor, behind, passed, seeing}
+use Rattle.behaviour_scopes.specs.ResolverState.{BehaviourStandsFor, behind_in_state, passed, seeing}
 use Rattle.behaviour_scopes.specs.ResolverView.{state_in}
 use Rattle.behaviour_scopes.proofs.ResolverLemmas.{knowing, terms_seen, behind_nothing, declares, gates_fit, gates_forgotten, variables_fit, variables_forgotten, let_declared, offers_declare}
 use Rattle.behaviour_scopes.proofs.StandingLemmas.{on_ok, sign_value, sign_fault, made_stands, synchronising_stands, enabling_stands, form_value, form_fault, test_fails, action_stands, guard_stands, hide_stands, let_stands, choose_value_stands, choose_gate_stands, par_gate_stands, guard_fault, choose_gate_fault, par_gate_fault, let_fault, choose_value_fault, gate_fault, offers_fault, names_fault, accept_fault, nothing_accepted, binary_answer}
@@ -33,14 +33,14 @@ use Rattle.behaviour_scopes.proofs.resolver.Resolver.+behaviours.Goals as goal
 pub hide-forget_gates-requires : goal.hide-forget_gates-requires
 hide-forget_gates-requires t c =
     let s = state_in c.args.self.now in let inside = written_behaviour c.args.inside.now in let gates = gates_in c.hide_all.new.self in
-    let names = each_once (spelled (placed_names_of c.args.gates.now.items)) in
+    let names = each_once (spelled_names (placed_names_of c.args.gates.now.items)) in
     gates_fit s (knowing gates s) (state_in c.behaviour.new.self) names inside c.size-size.result c.size-size.ensures (declares s names
     gates c.in_ok-hidden.ensures.declared) c.in_ok-behaviour.ensures.passed
 
 pub hide-returns-clause-passed : goal.hide-returns-clause-passed
 hide-returns-clause-passed t c =
     let s = state_in c.args.self.now in let inside = written_behaviour c.args.inside.now in let gates = gates_in c.hide_all.new.self in
-    let names = each_once (spelled (placed_names_of c.args.gates.now.items)) in
+    let names = each_once (spelled_names (placed_names_of c.args.gates.now.items)) in
     gates_forgotten s (knowing gates s) (state_in c.behaviour.new.self) (state_in c.forget_gates.new.self) names inside
     c.size-size.result c.size-size.ensures (declares s names gates c.in_ok-hidden.ensures.declared) c.in_ok-behaviour.ensures.passed
     c.forget_gates.ensures
@@ -48,7 +48,7 @@ hide-returns-clause-passed t c =
 pub hide-returns-clause-read : goal.hide-returns-clause-read
 hide-returns-clause-read t c =
     let s = state_in c.args.self.now in let inside = written_behaviour c.args.inside.now in let gates = gates_in c.hide_all.new.self in
-    let names = each_once (spelled (placed_names_of c.args.gates.now.items)) in
+    let names = each_once (spelled_names (placed_names_of c.args.gates.now.items)) in
     form_value s (knowing gates s) (written.hide (text_place_of c.args.place) (placed_names_of c.args.gates.now.items) inside) inside
     (hide c.in_ok-hidden.hidden.items) (λ (o : Resolution Behaviour). hide_stands s (knowing gates s) (text_place_of c.args.place)
     (placed_names_of c.args.gates.now.items) inside c.in_ok-hidden.hidden.items o c.in_ok-hidden.ensures.numbers (declares s names gates
@@ -59,7 +59,7 @@ hide-returns-clause-read t c =
 pub hide-returns-in_err-behaviour-clause-read : goal.hide-returns-in_err-behaviour-clause-read
 hide-returns-in_err-behaviour-clause-read t c =
     let s = state_in c.args.self.now in let inside = written_behaviour c.args.inside.now in let gates = gates_in c.hide_all.new.self in
-    let names = each_once (spelled (placed_names_of c.args.gates.now.items)) in
+    let names = each_once (spelled_names (placed_names_of c.args.gates.now.items)) in
     form_fault s (knowing gates s) (written.hide (text_place_of c.args.place) (placed_names_of c.args.gates.now.items) inside) inside
     (hide c.in_ok-hidden.hidden.items) (λ (o : Resolution Behaviour). hide_stands s (knowing gates s) (text_place_of c.args.place)
     (placed_names_of c.args.gates.now.items) inside c.in_ok-hidden.hidden.items o c.in_ok-hidden.ensures.numbers (declares s names gates
@@ -185,7 +185,7 @@ let_be-returns-in_err-behaviour-clause-read t c =
 pub choose_value-see-requires : goal.choose_value-see-requires
 choose_value-see-requires t c =
     let s = state_in c.args.self.now in
-    (declared_of s.signature s.variable (variables_of c.args.variables.now.items) (map variable_of c.in_ok-chosen.chosen.items)
+    (declared_of s.signature s.variable (written_variables_of c.args.variables.now.items) (map variable_of c.in_ok-chosen.chosen.items)
     c.in_ok-chosen.ensures).sorted
 
 pub choose_value-forget_variables-requires : goal.choose_value-forget_variables-requires
@@ -202,7 +202,7 @@ choose_value-returns-clause-passed t c =
     let vs = map variable_of c.in_ok-chosen.chosen.items in
     let first : between ≡ seeing vs s = c.in_ok-see.ensures in
     variables_forgotten s between (state_in c.behaviour.new.self) (state_in c.forget_variables.new.self) vs inside c.size-size.result
-    (length (variables_of c.args.variables.now.items)) c.size-size.ensures (declared_of s.signature s.variable (variables_of
+    (length (written_variables_of c.args.variables.now.items)) c.size-size.ensures (declared_of s.signature s.variable (written_variables_of
     c.args.variables.now.items) (map variable_of c.in_ok-chosen.chosen.items) c.in_ok-chosen.ensures).counted first
     c.in_ok-within.ensures.passed c.forget_variables.ensures
 
@@ -211,9 +211,9 @@ choose_value-returns-clause-read t c =
     let s = state_in c.args.self.now in let inside = written_behaviour c.args.inside.now in let between = state_in c.see.new.self in
     let vs = map variable_of c.in_ok-chosen.chosen.items in
     let first : between ≡ seeing vs s = c.in_ok-see.ensures in
-    form_value s between (written.choose_value (text_place_of c.args.place) (variables_of c.args.variables.now.items) inside) inside
+    form_value s between (written.choose_value (text_place_of c.args.place) (written_variables_of c.args.variables.now.items) inside) inside
     (under_values (map variable_of c.in_ok-chosen.chosen.items)) (λ (o : Resolution Behaviour). choose_value_stands s between
-    (text_place_of c.args.place) (variables_of c.args.variables.now.items) inside (map variable_of c.in_ok-chosen.chosen.items) o
+    (text_place_of c.args.place) (written_variables_of c.args.variables.now.items) inside (map variable_of c.in_ok-chosen.chosen.items) o
     c.in_ok-chosen.ensures first) (behaviour_of c.in_ok-within.within) (behaviour_of c.in_ok-under_values.field-0)
     c.in_ok-under_values.ensures.nested c.in_ok-within.ensures.read
 
@@ -222,9 +222,9 @@ choose_value-returns-in_err-within-clause-read t c =
     let s = state_in c.args.self.now in let inside = written_behaviour c.args.inside.now in let between = state_in c.see.new.self in
     let vs = map variable_of c.in_ok-chosen.chosen.items in
     let first : between ≡ seeing vs s = c.in_ok-see.ensures in
-    form_fault s between (written.choose_value (text_place_of c.args.place) (variables_of c.args.variables.now.items) inside) inside
+    form_fault s between (written.choose_value (text_place_of c.args.place) (written_variables_of c.args.variables.now.items) inside) inside
     (under_values (map variable_of c.in_ok-chosen.chosen.items)) (λ (o : Resolution Behaviour). choose_value_stands s between
-    (text_place_of c.args.place) (variables_of c.args.variables.now.items) inside (map variable_of c.in_ok-chosen.chosen.items) o
+    (text_place_of c.args.place) (written_variables_of c.args.variables.now.items) inside (map variable_of c.in_ok-chosen.chosen.items) o
     c.in_ok-chosen.ensures first) c.from_residual-in_err-within.result c.in_err-within.field-0.0 c.from_residual-in_err-within.ensures.1
     c.in_err-within.ensures.read
 
@@ -358,7 +358,7 @@ let_be-returns-in_err-bindings-clause-read t c =
 
 pub choose_value-returns-in_err-chosen-clause-read : goal.choose_value-returns-in_err-chosen-clause-read
 choose_value-returns-in_err-chosen-clause-read t c =
-    choose_value_fault (state_in c.args.self.now) (text_place_of c.args.place) (variables_of c.args.variables.now.items)
+    choose_value_fault (state_in c.args.self.now) (text_place_of c.args.place) (written_variables_of c.args.variables.now.items)
     (written_behaviour c.args.inside.now) c.from_residual.result c.in_err-chosen.field-0.0 c.from_residual.ensures.1
     c.in_err-chosen.ensures
 
@@ -496,7 +496,7 @@ signed-returns-in_err-gates-in-Gates-clause-read t c =
 pub signed-see-requires : goal.signed-see-requires
 signed-see-requires t c =
     let s = state_in c.args.self.now in
-    (declared_of s.signature s.variable (variables_of c.in-Enable.accepted.items) (map variable_of
+    (declared_of s.signature s.variable (written_variables_of c.in-Enable.accepted.items) (map variable_of
     c.in_ok-seen-in-Enable.seen.items) c.in_ok-seen-in-Enable.ensures).sorted
 
 pub signed-forget_variables-requires : goal.signed-forget_variables-requires
@@ -510,8 +510,8 @@ pub signed-returns-in_ok-right-in-Enable-clause-read : goal.signed-returns-in_ok
 signed-returns-in_ok-right-in-Enable-clause-read t c =
     let s = state_in c.args.self.now in let right = written_behaviour c.args.right.now in let left = behaviour_of c.args.left.value in
     let between = state_in c.see.new.self in
-    sign_value s between (sign_of c.args.sign.now) (enabling (variables_of c.in-Enable.accepted.items)) left right (enable left (map
-    variable_of c.in_ok-seen-in-Enable.seen.items)) (λ (o : Resolution Behaviour). enabling_stands s between (variables_of
+    sign_value s between (sign_of c.args.sign.now) (enabling (written_variables_of c.in-Enable.accepted.items)) left right (enable left (map
+    variable_of c.in_ok-seen-in-Enable.seen.items)) (λ (o : Resolution Behaviour). enabling_stands s between (written_variables_of
     c.in-Enable.accepted.items) left right (map variable_of c.in_ok-seen-in-Enable.seen.items) o c.in_ok-seen-in-Enable.ensures
     c.in_ok-see-in-Enable.ensures) (ap sign_of c.in-Enable.is) (behaviour_of c.in_ok-behaviour-in-Enable.field-0) (enable left (map
     variable_of c.in_ok-seen-in-Enable.seen.items) (behaviour_of c.in_ok-right-in-Enable.right.value)) (ap (λ (x : Beh). enable left (map
@@ -522,8 +522,8 @@ pub signed-returns-in_err-behaviour-in-Enable-clause-read : goal.signed-returns-
 signed-returns-in_err-behaviour-in-Enable-clause-read t c =
     let s = state_in c.args.self.now in let right = written_behaviour c.args.right.now in let left = behaviour_of c.args.left.value in
     let between = state_in c.see.new.self in
-    sign_fault s between (sign_of c.args.sign.now) (enabling (variables_of c.in-Enable.accepted.items)) left right (enable left (map
-    variable_of c.in_ok-seen-in-Enable.seen.items)) (λ (o : Resolution Behaviour). enabling_stands s between (variables_of
+    sign_fault s between (sign_of c.args.sign.now) (enabling (written_variables_of c.in-Enable.accepted.items)) left right (enable left (map
+    variable_of c.in_ok-seen-in-Enable.seen.items)) (λ (o : Resolution Behaviour). enabling_stands s between (written_variables_of
     c.in-Enable.accepted.items) left right (map variable_of c.in_ok-seen-in-Enable.seen.items) o c.in_ok-seen-in-Enable.ensures
     c.in_ok-see-in-Enable.ensures) (ap sign_of c.in-Enable.is) c.from_residual-in_err-behaviour-in-Enable.result
     c.in_err-behaviour-in-Enable.field-0.0 c.from_residual-in_err-behaviour-in-Enable.ensures.1 c.in_err-behaviour-in-Enable.ensures.read
@@ -533,15 +533,17 @@ signed-returns-in_ok-right-in-Enable-clause-passed t c =
     let s = state_in c.args.self.now in let right = written_behaviour c.args.right.now in let left = behaviour_of c.args.left.value in
     let between = state_in c.see.new.self in
     variables_forgotten s between (state_in c.behaviour-in-Enable.new.self) (state_in c.forget_variables.new.self) (map variable_of
-    c.in_ok-seen-in-Enable.seen.items) right c.size-size.result (length (variables_of c.in-Enable.accepted.items)) c.size-size.ensures
-    (declared_of s.signature s.variable (variables_of c.in-Enable.accepted.items) (map variable_of
+    c.in_ok-seen-in-Enable.seen.items) right c.size-size.result (length (written_variables_of c.in-Enable.accepted.items))
+    c.size-size.ensures
+    (declared_of s.signature s.variable (written_variables_of c.in-Enable.accepted.items) (map variable_of
     c.in_ok-seen-in-Enable.seen.items) c.in_ok-seen-in-Enable.ensures).counted c.in_ok-see-in-Enable.ensures
-    c.in_ok-behaviour-in-Enable.ensures.passed c.forget_variables.ensures ∙ ap (λ (x : WrittenSign). behind (gates_of right) (length
+    c.in_ok-behaviour-in-Enable.ensures.passed c.forget_variables.ensures
+    ∙ ap (λ (x : WrittenSign). behind_in_state (gates_of right) (length
     (accepted x) + variable_count right) s) (sym (ap sign_of c.in-Enable.is))
 
 pub signed-returns-in_err-seen-in-Enable-clause-read : goal.signed-returns-in_err-seen-in-Enable-clause-read
 signed-returns-in_err-seen-in-Enable-clause-read t c =
-    accept_fault (state_in c.args.self.now) (sign_of c.args.sign.now) (variables_of c.in-Enable.accepted.items) (behaviour_of
+    accept_fault (state_in c.args.self.now) (sign_of c.args.sign.now) (written_variables_of c.in-Enable.accepted.items) (behaviour_of
     c.args.left.value) (written_behaviour c.args.right.now) c.from_residual-in_err-seen-in-Enable.result
     c.in_err-seen-in-Enable.field-0.0 (ap sign_of c.in-Enable.is) c.from_residual-in_err-seen-in-Enable.ensures.1
     c.in_err-seen-in-Enable.ensures
@@ -549,24 +551,26 @@ signed-returns-in_err-seen-in-Enable-clause-read t c =
 pub behaviour-returns-in-Exit-clause-passed : goal.behaviour-returns-in-Exit-clause-passed
 behaviour-returns-in-Exit-clause-passed t c =
     let s = state_in c.args.self.now in
-    on_ok c.exit.result (s ≡ passed (written_behaviour c.args.text.now) s) (behind_nothing s ∙ ap (λ (x : BehForm). passed (behaviour_at
+    on_ok c.exit.result (s ≡ passed (written_behaviour c.args.text.now) s)
+    (behind_nothing s ∙ ap (λ (x : BehForm). passed (written_behaviour_at
     c.args.text.now.place x) s) (sym c.in-Exit.is))
 
 pub behaviour-returns-in-Call-clause-passed : goal.behaviour-returns-in-Call-clause-passed
 behaviour-returns-in-Call-clause-passed t c =
     let s = state_in c.args.self.now in
-    on_ok c.call.result (s ≡ passed (written_behaviour c.args.text.now) s) (behind_nothing s ∙ ap (λ (x : BehForm). passed (behaviour_at
+    on_ok c.call.result (s ≡ passed (written_behaviour c.args.text.now) s)
+    (behind_nothing s ∙ ap (λ (x : BehForm). passed (written_behaviour_at
     c.args.text.now.place x) s) (sym c.in-Call.is))
 
 pub behaviour-returns-in-Stop-clause-passed : goal.behaviour-returns-in-Stop-clause-passed
 behaviour-returns-in-Stop-clause-passed t c =
     let s = state_in c.args.self.now in
-    behind_nothing s ∙ ap (λ (x : BehForm). passed (behaviour_at c.args.text.now.place x) s) (sym c.in-Stop.is)
+    behind_nothing s ∙ ap (λ (x : BehForm). passed (written_behaviour_at c.args.text.now.place x) s) (sym c.in-Stop.is)
 
 pub behaviour-returns-in-Action-clause-read : goal.behaviour-returns-in-Action-clause-read
 behaviour-returns-in-Action-clause-read t c =
     let s = state_in c.args.self.now in
-    subst (λ (x : BehForm). Answers behaviour_of c.action.result (BehaviourStandsFor s (behaviour_at c.args.text.now.place x))) (sym
+    subst (λ (x : BehForm). Answers behaviour_of c.action.result (BehaviourStandsFor s (written_behaviour_at c.args.text.now.place x))) (sym
     c.in-Action.is) (subst (λ (x : BehText). Answers behaviour_of c.action.result (BehaviourStandsFor s (written.action (text_place_of
     c.args.text.now.place) (spelling c.in-Action.gate) (map written_offer c.in-Action.offers.items) (option_map premiss_of
     c.in-Action.test) (written_behaviour x)))) c.deref.ensures c.action.ensures.read)
@@ -575,7 +579,7 @@ pub behaviour-returns-in_ok-first-in-Binary-clause-read : goal.behaviour-returns
 behaviour-returns-in_ok-first-in-Binary-clause-read t c =
     let s = state_in c.args.self.now in let place = text_place_of c.args.text.now.place in let sign = sign_of c.in-Binary.sign in
     let left = written_behaviour c.deref-in-Binary.result.now in let right = written_behaviour c.deref-in-Binary-2.result.now in
-    subst (λ (x : BehForm). Answers behaviour_of c.signed.result (BehaviourStandsFor s (behaviour_at c.args.text.now.place x))) (sym
+    subst (λ (x : BehForm). Answers behaviour_of c.signed.result (BehaviourStandsFor s (written_behaviour_at c.args.text.now.place x))) (sym
     c.in-Binary.is) (subst (λ (x : BehText). Answers behaviour_of c.signed.result (BehaviourStandsFor s (written.binary place sign
     (written_behaviour x) (written_behaviour c.in-Binary.right.value)))) c.deref-in-Binary.ensures (subst (λ (x : BehText). Answers
     behaviour_of c.signed.result (BehaviourStandsFor s (written.binary place sign left (written_behaviour x)))) c.deref-in-Binary-2.ensures

@@ -6,7 +6,7 @@ use Rattle.behaviour_semantics.specs.Behaviour as plain
 use Rattle.behaviour_tree.specs.DefinitionView.{process_of}
 use Rattle.behaviour_tree.specs.declared.definitions.Process.{Process}
 use Rattle.scope_parts.specs.BindingsView.{bindings_in}
-use Rattle.flat_text.specs.WritingView.{HasNames}
+use Rattle.flat_text.specs.WritingView.{HasTheseNames}
 use Rattle.flat_text.proofs.GivenLemmas.{none_given}
 use Rattle.flat_text.proofs.TableLemmas.{HasAllBut, all_bound, none_bound, one_bound}
 use Rattle.flat_text.proofs.given_names.Giving.beginning.Goals as goal
@@ -32,7 +32,7 @@ pub returns : goal.returns
 returns c =
     none_given (bindings_in c.new-earlier.result) (bindings_in c.loop-process.taken) (names_in c.args.processes.now.items)
     c.new-earlier.ensures
-    (subst (λ (ps : List Process). HasNames (bindings_in c.loop-process.taken) (names_in ps)) c.deref-process-items.ensures.value
+    (subst (λ (ps : List Process). HasTheseNames (bindings_in c.loop-process.taken) (names_in ps)) c.deref-process-items.ensures.value
     (all_bound (bindings_in c.loop-process.taken)
     (names_in (drop c.loop-process.process-index c.deref-process-items.result.now)) (names_in c.deref-process-items.result.now)
     c.loop-process.invariant

@@ -1,7 +1,7 @@
 use Rattle.std.proofs.Common.{inl, refl, sym, subst}
 use Rattle.session_log.specs.HandedOn.{entries_in, Menu, specification_of, Spec, book_canon}
 use Rattle.sort_terms.specs.EquationView.{data_of}
-use Rattle.session_log.proofs.ResultLemmas.{gave_up}
+use Rattle.lotos_base.proofs.Options.{gave_up}
 use Rattle.session_log.specs.Kept.{IsKeptMenu}
 use Rattle.value_lists.specs.ListOutcome.{InstancesComeTo}
 use Rattle.value_lists.specs.ListText.{instances_text}

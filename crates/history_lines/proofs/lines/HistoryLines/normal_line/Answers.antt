@@ -1,5 +1,5 @@
 use Rattle.std.proofs.Common.{inl, refl}
-use Rattle.session_log.proofs.ResultLemmas.{gave_up}
+use Rattle.lotos_base.proofs.Options.{gave_up}
 use Rattle.history_lines.specs.LinesView.{standing_of}
 use Rattle.history_lines.proofs.ServingLemmas.{same_standing, is_as_before, said_normal}
 use Rattle.history_lines.proofs.StayLemmas.{stays}

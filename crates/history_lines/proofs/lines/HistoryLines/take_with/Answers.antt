@@ -1,6 +1,6 @@
 use Rattle.session_log.specs.HandedOn.{terms_of, label_of}
 use Rattle.history_lines.specs.StepAnswer.{is_taken}
-use Rattle.session_log.proofs.ResultLemmas.{gave_up}
+use Rattle.lotos_base.proofs.Options.{gave_up}
 use Rattle.history_lines.specs.LinesView.{basis_of, reached}
 use Rattle.history_lines.specs.declared.refusals.Decline.TheVariants.{Step}
 use Rattle.history_lines.proofs.StayLemmas.{stays}

@@ -7,7 +7,7 @@ use Rattle.session_log.specs.HandedOn.{entries_in, plain_entry, Menu, terms_of, 
 use Rattle.session_log.specs.Entries.{AreGiven}
 use Rattle.session_log.specs.RefusalView.{TellsStep}
 use Rattle.session_log.specs.Values.{IsFirstMisread, TellsMisread}
-use Rattle.session_log.proofs.ResultLemmas.{gave_up}
+use Rattle.lotos_base.proofs.Options.{gave_up}
 use Rattle.history_lines.specs.LinesView.{basis_of, reached}
 use Rattle.history_lines.specs.declared.refusals.Decline.TheVariants.{Terms, Step}
 use Rattle.history_lines.proofs.StepLemmas.{miscounted, misread, valued}

@@ -1,5 +1,5 @@
 use Rattle.std.proofs.Common.{arith}
-use Rattle.session_log.proofs.ResultLemmas.{gave_up}
+use Rattle.lotos_base.proofs.Options.{gave_up}
 use Rattle.history_lines.specs.LinesView.{point_of}
 use Rattle.history_lines.proofs.ServedLemmas.{serves_line}
 use Rattle.history_lines.proofs.serving.HistoryLinesLines.serve.Goals as goal

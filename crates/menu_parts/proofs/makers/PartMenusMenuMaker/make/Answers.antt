@@ -1,7 +1,7 @@
 use Rattle.std.proofs.Common.{◌∙◌, map, ap, subst}
 use Rattle.behaviour_semantics.specs.WellFormed.{Every}
 use Rattle.behaviour_tree.specs.StateView.{stands_for, state_of}
-use Rattle.menu_parts.specs.Items.{HasEntryTerms, HasItemTerms, plain_item}
+use Rattle.shared_entries.specs.Items.{HasEntryTerms, HasItemTerms, plain_item}
 use Rattle.step_taker.specs.Taken.{ground_of}
 use Rattle.menu_parts.specs.Spread.{listed_for}
 use Rattle.menu_parts.specs.declared.kept.Kept.{Kept}

@@ -10,7 +10,7 @@ use Rattle.behaviour_semantics.specs.Rule.{is_exit}
 use Rattle.behaviour_semantics.specs.Shape.{Shape}
 use Rattle.plain_moves.specs.MoveView.{shaped_of}
 use Rattle.plain_moves.specs.Taken.{taken_of}
-use Rattle.plain_moves.specs.View.{without_values, label_of}
+use Rattle.plain_moves.specs.View.{without_values, plain_label_of}
 use Rattle.plain_moves.specs.declared.behaviour.PlainBehaviour.{PlainBehaviour}
 use Rattle.plain_moves.specs.declared.label.PlainLabel.{PlainLabel}
 use Rattle.plain_moves.specs.declared.label.PlainLabel.TheVariants as label
@@ -20,11 +20,11 @@ use Rattle.plain_moves.proofs.rule.Rule.target.Goals as goal
 
 -- the target of a left side of `>>`
 enabled_target : (signature : Signature) (shape : Shape) (l : PlainLabel) (target b : Behaviour) (right : PlainBehaviour) →
-    b ≡ (if is_exit (label_of l) then without_values right else plain.enable target [] (without_values right)) →
+    b ≡ (if is_exit (plain_label_of l) then without_values right else plain.enable target [] (without_values right)) →
     IfSome (below_enable signature [] (without_values right) (record {
       shape = shape;
       move =
-          record { label = label_of l; target = target; asked = []; sorts = [] };
+          record { label = plain_label_of l; target = target; asked = []; sorts = [] };
     })) (λ x. x.move.target ≡ b)
 enabled_target signature shape label.Inner target b right e = sym e
 enabled_target signature shape (label.Gate gate) target b right e = sym e

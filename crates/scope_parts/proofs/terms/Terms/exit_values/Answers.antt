@@ -4,7 +4,7 @@ use Rattle.behaviour_tree.specs.BehaviourTerms.{exit_profiles, joined}
 use Rattle.behaviour_tree.specs.BehaviourView.{exit_value_of}
 use Rattle.behaviour_tree.specs.Over.{AreTermsOf}
 use Rattle.sort_terms.specs.ReaderView.{signature_read}
-use Rattle.syntax_trees.specs.TreeViews.{exit_value_of as written_value}
+use Rattle.syntax_trees.specs.TreeViews.{written_exit_value_of as written_value}
 use Rattle.scope_parts.specs.FaultView.{FaultIs}
 use Rattle.scope_parts.specs.Resolution.{resolved, faulty}
 use Rattle.scope_parts.specs.Terms.{ExitValueIs, ExitValuesAre}

@@ -6,7 +6,7 @@ use Rattle.behaviour_tree.specs.Over.{AreTermsOf}
 use Rattle.behaviour_tree.proofs.ClosedLemmas.{terms_both}
 use Rattle.lotos_base.specs.WrittenView.{written_term_of}
 use Rattle.sort_terms.specs.ReaderView.{signature_read}
-use Rattle.syntax_trees.specs.TreeViews.{lets_of, variable_of}
+use Rattle.syntax_trees.specs.TreeViews.{lets_of, written_variable_of}
 use Rattle.scope_parts.specs.FaultView.{FaultIs}
 use Rattle.scope_parts.specs.Resolution.{resolved, faulty}
 use Rattle.scope_parts.specs.Terms.{BindingIs, BindingsAre}
@@ -42,7 +42,7 @@ loop-text-preserved c = record {
       (λ xs. BindingsAre (signature_read c.args.self.now.reader) (visible_in c.args.visible.now) c.loop-text.number (lets_of xs))
       (λ xs. BindingsAre (signature_read c.args.self.now.reader) (visible_in c.args.visible.now) (suc c.loop-text.number) (lets_of xs))
       (BindingIs (signature_read c.args.self.now.reader) (visible_in c.args.visible.now) c.loop-text.number
-      (variable_of c.text-item.result.0, written_term_of c.text-item.result.1))
+      (written_variable_of c.text-item.result.0, written_term_of c.text-item.result.1))
       (λ y. y) c.deref-text-items.result.now c.loop-text.text-index c.text-item.result (map let_of c.loop-text.made.items)
       (map let_of c.push.new.self.items) (let_of c.in_ok-binding.binding) (λ xs o then. then) c.loop-text-test.true c.text-item.is
       c.loop-text.invariant.leads c.in_ok-binding.ensures.read
@@ -69,7 +69,7 @@ returns-in_err-binding-clause-read c =
     (λ xs. BindingsAre (signature_read c.args.self.now.reader) (visible_in c.args.visible.now) c.loop-text.number (lets_of xs))
     (λ xs. BindingsAre (signature_read c.args.self.now.reader) (visible_in c.args.visible.now) (suc c.loop-text.number) (lets_of xs))
     (BindingIs (signature_read c.args.self.now.reader) (visible_in c.args.visible.now) c.loop-text.number
-    (variable_of c.text-item.result.0, written_term_of c.text-item.result.1))
+    (written_variable_of c.text-item.result.0, written_term_of c.text-item.result.1))
     (λ y. y) c.deref-text-items.result.now c.loop-text.text-index c.text-item.result (map let_of c.loop-text.made.items)
     c.in_err-binding.field-0.0 (λ xs o then. then) c.loop-text-test.true c.text-item.is c.loop-text.invariant.leads
     c.in_err-binding.ensures.read))

@@ -4,7 +4,7 @@ use Rattle.behaviour_tree.specs.BehaviourTerms.{offer_profiles, joined}
 use Rattle.behaviour_tree.specs.BehaviourView.{offer_of}
 use Rattle.behaviour_tree.specs.Over.{AreTermsOf}
 use Rattle.sort_terms.specs.ReaderView.{signature_read}
-use Rattle.syntax_trees.specs.TreeViews.{offer_of as written_offer}
+use Rattle.syntax_trees.specs.TreeViews.{written_offer_of as written_offer}
 use Rattle.scope_parts.specs.FaultView.{FaultIs}
 use Rattle.scope_parts.specs.Resolution.{resolved, faulty}
 use Rattle.scope_parts.specs.Terms.{OfferIs, OffersFollow, past_offer}

@@ -3,7 +3,7 @@ use Rattle.behaviour_tree.specs.BehaviourTerms.{offer_profiles, joined}
 use Rattle.behaviour_tree.specs.BehaviourView.{offer_of}
 use Rattle.behaviour_tree.specs.Over.{AreTermsOf}
 use Rattle.sort_terms.specs.ReaderView.{signature_read}
-use Rattle.syntax_trees.specs.TreeViews.{offer_of as written_offer}
+use Rattle.syntax_trees.specs.TreeViews.{written_offer_of as written_offer}
 use Rattle.scope_parts.specs.Terms.{OffersFollow}
 use Rattle.scope_parts.specs.VisibleView.{visible_in}
 use Rattle.scope_parts.proofs.AnswerLemmas.{Leads}

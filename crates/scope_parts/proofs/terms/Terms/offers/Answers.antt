@@ -3,7 +3,7 @@ use Rattle.std.specs.Prelude.{Option}
 use Rattle.lotos_base.specs.WrittenTerm.{PlacedName}
 use Rattle.behaviour_tree.specs.BehaviourTerms.{joined, offer_profiles}
 use Rattle.behaviour_tree.specs.BehaviourView.{offer_of}
-use Rattle.syntax_trees.specs.TreeViews.{offer_of as written_offer}
+use Rattle.syntax_trees.specs.TreeViews.{written_offer_of as written_offer}
 use Rattle.behaviour_tree.specs.Over.{AreTermsOf}
 use Rattle.sort_terms.specs.ReaderView.{signature_read}
 use Rattle.scope_parts.specs.FaultView.{Answers}

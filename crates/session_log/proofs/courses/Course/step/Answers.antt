@@ -20,7 +20,7 @@ use Rattle.session_log.specs.declared.courses.Past.{Past}
 use Rattle.session_log.specs.declared.refusals.StepRefusal.TheVariants as step
 use Rattle.session_log.proofs.CourseLemmas.{state_over, free_where_met, has_stepped, kept_stepped, same_progress, kept_same, chosen_told, taken_over, exact_over}
 use Rattle.session_log.proofs.EntryLemmas.{entry_over, menu_kept, miscount_told}
-use Rattle.session_log.proofs.ResultLemmas.{gave_up}
+use Rattle.lotos_base.proofs.Options.{gave_up}
 use Rattle.session_log.proofs.courses.Course.step.Goals as goal
 
 pub returns-in_err-entry-clause-answered : goal.returns-in_err-entry-clause-answered

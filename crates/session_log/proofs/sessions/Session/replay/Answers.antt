@@ -9,7 +9,7 @@ use Rattle.session_log.specs.CourseView.{past_of, progress_of}
 use Rattle.session_log.specs.Kept.{AreSuited, IsKeptCourse, IsKeptState}
 use Rattle.session_log.proofs.CourseLemmas.{copied_kept, first_kept, same_beginning}
 use Rattle.session_log.proofs.ReplayLemmas.{replayed_here, replay_told_here}
-use Rattle.session_log.proofs.ResultLemmas.{gave_up}
+use Rattle.lotos_base.proofs.Options.{gave_up}
 use Rattle.session_log.proofs.sessions.Session.replay.Goals as goal
 
 pub open-requires-clause-kept : goal.open-requires-clause-kept

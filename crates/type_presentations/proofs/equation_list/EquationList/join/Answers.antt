@@ -10,7 +10,7 @@ use Rattle.sort_terms.specs.declared.equations.Equation.{Equation as CodeEquatio
 use Rattle.type_definitions.specs.ProfiledImage.{KeepsProfiles, number_in, profiled_image}
 use Rattle.type_presentations.proofs.JoinedLemmas.{due_next, none_due}
 use Rattle.type_presentations.specs.EquationListView.{equations_in}
-use Rattle.type_presentations.proofs.EquationListLemmas.{element_of}
+use Rattle.lotos_base.proofs.Members.{read_member_of}
 use Rattle.type_presentations.proofs.equation_list.EquationList.join.Goals as goal
 
 pub loop-equation-init : goal.loop-equation-init
@@ -20,7 +20,7 @@ pub image_of_equation-requires : goal.image_of_equation-requires
 image_of_equation-requires c =
     let keeps =
     c.requires.keeps c.loop-equation.equation-index c.equation-item.result
-    (element_of c.as_slice-equation-items.result.now c.args.other.now.equations.items c.loop-equation.equation-index
+    (read_member_of c.as_slice-equation-items.result.now c.args.other.now.equations.items c.loop-equation.equation-index
     c.equation-item.result c.as_slice-equation-items.ensures.value c.loop-equation-test.true c.equation-item.is) in record {
       left = subst (λ (os : List Operation).
           KeepsProfiles (number_in c.args.sorts.now) (number_in c.args.ops.now) os (profiled_in c.equation-item.result.left))
@@ -45,7 +45,7 @@ loop-equation-preserved c = (
   λ signature have images.
       let these =
       images c.loop-equation.equation-index c.equation-item.result
-      (element_of c.as_slice-equation-items.result.now c.args.other.now.equations.items c.loop-equation.equation-index
+      (read_member_of c.as_slice-equation-items.result.now c.args.other.now.equations.items c.loop-equation.equation-index
       c.equation-item.result c.as_slice-equation-items.ensures.value c.loop-equation-test.true c.equation-item.is) in
       c.in_ok-add.ensures.sides signature (c.loop-equation.invariant.2 signature have images) (
         subst (λ (t : ProfiledTerm). IsOf signature t) (sym c.in_ok-image.ensures.left)

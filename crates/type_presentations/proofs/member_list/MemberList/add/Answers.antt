@@ -2,7 +2,7 @@ use Rattle.std.proofs.Common.{[], map, ap, ◌∙◌, sym, List, arith}
 use Rattle.std.specs.Str.{bytes_eq}
 use Rattle.sort_terms.specs.WellFormedTest.{all_differ}
 use Rattle.type_definitions.specs.Presentation.{first_position, with_new}
-use Rattle.type_presentations.specs.KeyView.{keys_in}
+use Rattle.type_presentations.specs.KeyView.{keys_in_set}
 use Rattle.type_presentations.specs.MemberListView.{members_by}
 use Rattle.type_presentations.specs.declared.key_set.KeySet.{KeySet}
 use Rattle.type_presentations.proofs.AddedLemmas.{Keying, added, name_added}
@@ -28,7 +28,7 @@ returns-then-placed-clause-keyed g c =
     name_added l (members_by g.T.Keyed.plain c.args.self.now) (g.T.Keyed.plain c.args.member) _ _ _ c.requires.keyed.clash_keys
     c.in_ok-clashes.ensures.clash_keys c.in_ok-clashes.ensures.clashes in record {
       keys =
-          ap (λ (set : KeySet). keys_in set) c.in_ok-clashes.ensures.keys ∙ a.kept
+          ap (λ (set : KeySet). keys_in_set set) c.in_ok-clashes.ensures.keys ∙ a.kept
           ∙ ap (λ (members : List g.T.Keyed.Plain). map g.T.Keyed.key_of members)
           (a.grown c.if-placed.true ∙ sym c.in_ok-clashes.ensures.members);
       clash_keys =

@@ -1,14 +1,14 @@
 use Rattle.std.proofs.Common.{◌≡◌, ◌*◌, ◌+◌, ◌-◌, ◌≤◌, ◌++◌, drop, length, map}
 use Rattle.sort_terms.specs.TermView.{profiled_of}
-use Rattle.value_lists.specs.TrialView.{found_next, sorts_behind, sorts_of, trial_of, values_in}
+use Rattle.value_lists.specs.TrialView.{found_next, sorts_behind, trial_sorts_of, trial_of, values_in}
 use Rattle.value_lists.proofs.TrialLemmas.{found_among}
 use Rattle.value_lists.proofs.trials.Trial.+search.Given as goal
 
 abbrev pub decreases-search_behind : goal.decreases-search_behind
-decreases-search_behind l = 2 * (length (sorts_of l.self.now) - length l.chosen.now.items) + 1
+decreases-search_behind l = 2 * (length (trial_sorts_of l.self.now) - length l.chosen.now.items) + 1
 
 abbrev pub decreases-search_with : goal.decreases-search_with
-decreases-search_with l = 2 * (length (sorts_of l.self.now) - length l.chosen.now.items)
+decreases-search_with l = 2 * (length (trial_sorts_of l.self.now) - length l.chosen.now.items)
 
 abbrev pub invariant-search_behind-loop-value : goal.invariant-search_behind-loop-value
 invariant-search_behind-loop-value l =

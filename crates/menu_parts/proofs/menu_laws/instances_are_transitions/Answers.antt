@@ -1,5 +1,0 @@
-use Rattle.menu_parts.proofs.InstanceLemmas.{instances_are_transitions}
-use Rattle.menu_parts.proofs.menu_laws.instances_are_transitions.Goals as goal
-
-pub returns : goal.returns
-returns c = instances_are_transitions c.transitions_are_derived.ensures

@@ -1,0 +1,11 @@
+pub mod Instances
+pub mod PartRule
+pub mod PartMenus
+pub mod PartMenuLaws
+pub mod KeptTree
+pub mod KeptTreeLaws
+pub mod MenuExamples
+pub mod Items
+pub mod Rules
+pub mod Joined
+pub mod HandedOn

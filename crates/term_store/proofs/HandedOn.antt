@@ -1,0 +1,2 @@
+-- What crates above this one need of the crates below it.
+pub use Rattle.term_rewriter.proofs.HeadLemmas.{headed_where}
