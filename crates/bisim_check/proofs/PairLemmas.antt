@@ -15,7 +15,7 @@ use Rattle.certificate_theory.specs.AgreementLaws.{ClosedEntriesAreEvents, Close
 use Rattle.certificate_theory.specs.Bisimulation.{turned_round}
 use Rattle.certificate_theory.specs.Certificate.{CertificateFault, ListedPair, AreListed, ComparedSide}
 use Rattle.certificate_theory.specs.MatchedPairs.{PairIsMatched, PairFails, left_fails, right_fails}
-use Rattle.menu_builder.specs.HandedOn.{plain_entry, Entry}
+use Rattle.menu_builder.specs.HandedOn.{plain_entry, Entry, menu_entries}
 use Rattle.menu_builder.specs.Menus.{entries_in}
 use Rattle.bisim_check.specs.Events.{IsEventOf, HasNewEvent, IsUnanswered}
 use Rattle.bisim_check.specs.Matching.{Event, AreEvents, ListedTowards, AllAnswered}
@@ -103,7 +103,7 @@ has_events : (data_ : Data) (canon : Term → Term) (spec : Spec) (surveyed : Su
 has_events data_ canon spec surveyed events is_canon h = record {
   over = surveyed_over data_ canon spec surveyed h.side is_canon h.surveyed_;
   exact = h.surveyed_.exact;
-  closed = closed_entries surveyed.menu.entries.items h.closed;
+  closed = closed_entries (menu_entries surveyed.menu) h.closed;
   events = h.events_;
 }
 

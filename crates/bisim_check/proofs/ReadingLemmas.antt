@@ -16,7 +16,7 @@ use Rattle.behaviour_tree.specs.declared.definitions.Spec.{Spec}
 use Rattle.certificate_theory.specs.Certificate.{CertificateLine, names_left, names_right, lists_pair, CertificateFault, no_state, Comparison, Reading as PlainReading, number_of_pairs}
 use Rattle.certificate_theory.specs.NamedStates.{IsClosedEntry, HasClosedMenu, HasOpenMenu, NamesNoState, LineIsRead, LineFails, LinesAreRead, one_read, LinesFail, fails_here, fails_later, left_is_missing, right_is_missing, left_is_open, right_is_open}
 use Rattle.certificate_theory.proofs.ReadStates.{lines_counted}
-use Rattle.menu_builder.specs.HandedOn.{plain_entry, Entry}
+use Rattle.menu_builder.specs.HandedOn.{plain_entry, Entry, menu_entries}
 use Rattle.menu_builder.specs.Menus.{entries_in}
 use Rattle.bisim_check.specs.Faults.{TellsPairs}
 use Rattle.bisim_check.specs.LineView.{line_of}
@@ -45,7 +45,7 @@ closed_menu : (data_ : Data) (canon : Term → Term) (spec : Spec) (surveyed : S
 closed_menu data_ canon spec surveyed h closed = record {
   menu = entries_in surveyed.menu;
   exact = h.exact;
-  closed = closed_entries surveyed.menu.entries.items closed;
+  closed = closed_entries (menu_entries surveyed.menu) closed;
 }
 
 open_one : (data_ : Data) (canon : Term → Term) (spec : Spec) (surveyed : Surveyed) (line : ℕ) (f : CertificateFault)
@@ -55,7 +55,7 @@ open_one data_ canon spec surveyed line f h it = record {
   menu = entries_in surveyed.menu;
   exact = h.exact;
   entry = plain_entry it.entry;
-  there = (it.position, at_map plain_entry surveyed.menu.entries.items it.position it.entry it.there);
+  there = (it.position, at_map plain_entry (menu_entries surveyed.menu) it.position it.entry it.there);
   open_entry = it.is_open;
 }
 

@@ -10,7 +10,7 @@ use Rattle.behaviour_semantics.proofs.InstanceLemmas.{every_at}
 use Rattle.behaviour_tree.specs.declared.definitions.Spec.{Spec}
 use Rattle.certificate_theory.specs.Certificate.{CertificateFault, no_state, no_entry, open_menu, no_start_pair}
 use Rattle.certificate_theory.specs.NamedStates.{numbered_entry, EntryLeads, NamesState, NamesNoState, state_is_missing, entry_is_missing, entry_is_open}
-use Rattle.menu_builder.specs.HandedOn.{plain_entry, IsEntryOf, IsEntryOver, Entry, Menu}
+use Rattle.menu_builder.specs.HandedOn.{plain_entry, IsEntryOf, IsEntryOver, Entry, Menu, menu_entries}
 use Rattle.menu_builder.specs.Menus.{entries_in}
 use Rattle.bisim_check.specs.Faults.{TellsPairs, unmatched_on}
 use Rattle.bisim_check.specs.Readings.{IsEntryNumbered}
@@ -43,37 +43,37 @@ surveyed_more data_ canon spec states new last added all it =
 
 -- ---- An entry by its number
 
-pub found_at : (menu : Menu) (number : ℕ) (entry : Entry) → 0 < number → slice_get menu.entries.items (number - 1) ≡ Some entry
+pub found_at : (menu : Menu) (number : ℕ) (entry : Entry) → 0 < number → slice_get (menu_entries menu) (number - 1) ≡ Some entry
     → IsEntryNumbered menu number entry
 found_at menu zero entry some found = absurd (omega (arith, some))
 found_at menu (suc n) entry some found =
     let before : suc n - 1 ≡ n = omega arith in record {
       position = n;
       numbered = refl;
-      found = subst (λ (m : ℕ). slice_get menu.entries.items m ≡ Some entry) before found;
+      found = subst (λ (m : ℕ). slice_get (menu_entries menu) m ≡ Some entry) before found;
     }
 
 pub entry_at_number : (menu : Menu) (number : ℕ) (entry : Entry) → IsEntryNumbered menu number entry
     → numbered_entry (entries_in menu) number ≡ Some (plain_entry entry)
 entry_at_number menu number entry h =
-    ap (numbered_entry (entries_in menu)) h.numbered ∙ at_map plain_entry menu.entries.items h.position entry h.found
+    ap (numbered_entry (entries_in menu)) h.numbered ∙ at_map plain_entry (menu_entries menu) h.position entry h.found
 
 pub entry_there : (menu : Menu) (number : ℕ) (entry : Entry) → IsEntryNumbered menu number entry
     → IsEntry (entries_in menu) (plain_entry entry)
-entry_there menu number entry h = (h.position, at_map plain_entry menu.entries.items h.position entry h.found)
+entry_there menu number entry h = (h.position, at_map plain_entry (menu_entries menu) h.position entry h.found)
 
 pub no_entry_at_zero : (menu : Menu) (number line : ℕ) → number ≡ 0
     → (no_entry line ≡ no_entry line) × (numbered_entry (entries_in menu) number ≡ None)
 no_entry_at_zero menu number line is = (refl, ap (numbered_entry (entries_in menu)) is)
 
-pub no_entry_past : (menu : Menu) (number line : ℕ) → 0 < number → slice_get menu.entries.items (number - 1) ≡ None
+pub no_entry_past : (menu : Menu) (number line : ℕ) → 0 < number → slice_get (menu_entries menu) (number - 1) ≡ None
     → (no_entry line ≡ no_entry line) × (numbered_entry (entries_in menu) number ≡ None)
 no_entry_past menu zero line some none = absurd (omega (arith, some))
 no_entry_past menu (suc n) line some none =
     let before : suc n - 1 ≡ n = omega arith in (
       refl,
-      past_map plain_entry menu.entries.items n
-          (subst (λ (m : ℕ). slice_get menu.entries.items m ≡ None) before none),
+      past_map plain_entry (menu_entries menu) n
+          (subst (λ (m : ℕ). slice_get (menu_entries menu) m ≡ None) before none),
     )
 
 pub no_state_past : (states : List Surveyed) (number line : ℕ) → slice_get states number ≡ None
@@ -92,7 +92,7 @@ module _ (data_ : Data) (canon : Term → Term) (spec : Spec) (states : List Sur
 
   pub entry_over : (number : ℕ) (entry : Entry) → IsEntryNumbered found.menu number entry → IsEntryOf data_.signature entry
   entry_over number entry h =
-      (every_at (IsEntryOver data_.signature) found.menu.entries.items h.position entry found_surveyed.entries h.found).entry_of
+      (every_at (IsEntryOver data_.signature) (menu_entries found.menu) h.position entry found_surveyed.entries h.found).entry_of
 
   pub names : (number : ℕ) (entry : Entry) (target : Behaviour) → IsEntryNumbered found.menu number entry → entry.vars.items ≡ []
       → EntryLeads (side_over data_ canon spec) (behaviour_in found) (plain_entry entry) target

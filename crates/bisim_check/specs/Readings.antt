@@ -7,7 +7,7 @@ use Rattle.behaviour_semantics.specs.WellFormed.{Every}
 use Rattle.behaviour_tree.specs.DefinitionView.{specification_of}
 use Rattle.behaviour_tree.specs.declared.definitions.Spec.{Spec}
 use Rattle.certificate_theory.specs.Certificate.{CertificateFault, open_menu, Comparison, ListedPair, Reading as PlainReading}
-use Rattle.menu_builder.specs.HandedOn.{Entry, Menu}
+use Rattle.menu_builder.specs.HandedOn.{Entry, Menu, menu_entries}
 use Rattle.bisim_check.specs.Surveys.{AreSurveyed, behaviours_in}
 use Rattle.bisim_check.specs.declared.readings.Listed.{Listed}
 use Rattle.bisim_check.specs.declared.readings.Reading.{Reading}
@@ -51,7 +51,7 @@ abbrev pub IsClosedOne : Entry → Type 0
 IsClosedOne entry = entry.vars.items ≡ []
 
 abbrev pub HasClosedEntries : Menu → Type 0
-HasClosedEntries menu = Every IsClosedOne menu.entries.items
+HasClosedEntries menu = Every IsClosedOne (menu_entries menu)
 
 -- The state with this number, in whose menu no entry has a variable.
 pub record HasClosedState (states : List Surveyed) (number : ℕ) : Type 0 where
@@ -85,12 +85,12 @@ ArePlaced reading = Every (IsPlacedPair reading) reading.pairs.items
 pub record IsEntryNumbered (menu : Menu) (number : ℕ) (entry : Entry) : Type 0 where
   pub position : ℕ
   pub numbered : number ≡ suc position
-  pub found : slice_get menu.entries.items position ≡ Some entry
+  pub found : slice_get (menu_entries menu) position ≡ Some entry
 
 -- The fault is that an entry of the menu has a variable.
 pub record IsOpenFault (menu : Menu) (line : ℕ) (f : CertificateFault) : Type 0 where
   pub is : f ≡ open_menu line
   pub position : ℕ
   pub entry : Entry
-  pub there : slice_get menu.entries.items position ≡ Some entry
+  pub there : slice_get (menu_entries menu) position ≡ Some entry
   pub is_open : IsClosedOne entry → ⊥

@@ -13,7 +13,7 @@ use Rattle.behaviour_tree.specs.StateView.{state_of}
 use Rattle.behaviour_tree.specs.declared.definitions.Spec.{Spec}
 use Rattle.behaviour_tree.specs.declared.states.State.{State}
 use Rattle.certificate_theory.specs.Certificate.{ComparedSide, compared_side_of}
-use Rattle.menu_builder.specs.HandedOn.{IsEntryOver}
+use Rattle.menu_builder.specs.HandedOn.{IsEntryOver, menu_entries}
 use Rattle.menu_builder.specs.Menus.{entries_in}
 use Rattle.bisim_check.specs.declared.surveys.Surveyed.{Surveyed}
 
@@ -35,7 +35,7 @@ pub record IsStateIn (signature : Signature) (spec : Spec) (state : State) : Typ
 pub record IsSurveyed (data_ : Data) (canon : Term → Term) (spec : Spec) (surveyed : Surveyed) : Type 0 where
   pub state : IsStateIn data_.signature spec surveyed.state
   pub exact : Exact data_ canon (specification_of spec).processes (state_of surveyed.state) (entries_in surveyed.menu)
-  pub entries : Every (IsEntryOver data_.signature) surveyed.menu.entries.items
+  pub entries : Every (IsEntryOver data_.signature) (menu_entries surveyed.menu)
 
 abbrev pub AreSurveyed : Data → (Term → Term) → Spec → List Surveyed → Type 0
 AreSurveyed data_ canon spec states = Every (IsSurveyed data_ canon spec) states

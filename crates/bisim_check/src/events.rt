@@ -6,7 +6,7 @@ ghost use Rattle.bisim_check.specs.Events.{event_of, HasNewEvent, IsEventOf};
 ghost use Rattle.bisim_check.specs.Matching.{AreEvents};
 ghost use Rattle.bisim_check.specs.Readings.{HasClosedEntries};
 ghost use Rattle.bisim_check.specs.Surveys.{IsSideOf, IsSurveyed, side_over};
-ghost use Rattle.menu_builder.specs.HandedOn.{Entry, IsEntryOf, KeepsData, plain_entry};
+ghost use Rattle.menu_builder.specs.HandedOn.{Entry, IsEntryOf, KeepsData, plain_entry, menu_entries};
 ghost use Rattle.menu_builder.specs.Menus.{entries_in};
 ghost use Rattle.std.specs.Prelude.{◌≡◌, ◌++◌, ◌∷◌, [], IfOk, OnOk, Some, map, slice_get};
 
@@ -64,7 +64,7 @@ fn add_event<D: Deciding>(
         surveyed.now }
     requires closed { HasClosedEntries surveyed.now.menu }
     ensures added { OnOk result ((entry : Entry)
-        → slice_get surveyed.now.menu.entries.items position ≡ Some entry
+        → slice_get (menu_entries surveyed.now.menu) position ≡ Some entry
         → HasNewEvent (side_over (D.known_data data.old) (D.canon data.old) spec.now)
         (state_of surveyed.now.state) (plain_entry entry) (map event_of events.old.items)
         (map event_of events.new.items)) }

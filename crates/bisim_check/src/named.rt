@@ -32,7 +32,7 @@ ghost use Rattle.certificate_theory.specs.NamedStates.{
 };
 ghost use Rattle.lotos_base.specs.Equation.{Data};
 ghost use Rattle.lotos_base.specs.Term.{Term};
-ghost use Rattle.menu_builder.specs.HandedOn.{AreRanksOf, Entry, KeepsData};
+ghost use Rattle.menu_builder.specs.HandedOn.{AreRanksOf, Entry, KeepsData, menu_entries};
 ghost use Rattle.menu_builder.specs.Menus.{entries_in};
 ghost use Rattle.std.specs.Prelude.{
   ◌≡◌,
@@ -240,7 +240,7 @@ fn closed_menu(menu: &Menu, line: u32) -> Result<(), PairsFault>
 // Answers nothing where the entry at the position, if there is one, has no variable.
 fn closed_at(menu: &Menu, position: usize, line: u32) -> Result<(), PairsFault>
     ensures { MatchResult result
-        (λ _. (entry : Entry) → slice_get menu.now.entries.items position ≡ Some entry
+        (λ _. (entry : Entry) → slice_get (menu_entries menu.now) position ≡ Some entry
         → IsClosedOne entry)
         (TellsPairs (IsOpenFault menu.now line)) }
 {

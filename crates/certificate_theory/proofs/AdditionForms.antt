@@ -12,12 +12,12 @@ use Rattle.rewriting_theory.specs.Rewriting.{IsNormal}
 use Rattle.rewriting_theory.specs.ChosenForm.{Chosen, chosen_variable, chosen_done, chosen_next, AllChosen, all_chosen, chosen_then}
 use Rattle.rewriting_theory.proofs.MatchLemmas.{no_match_then, first_step_later, first_step_here, no_rule}
 use Rattle.rewriting_theory.proofs.PublicLemmas.{normal_chosen, chosen_normal}
-use Rattle.termination_theory.specs.Orientation.{NumberedRule}
-use Rattle.termination_theory.specs.OrderCases.{later_above}
-use Rattle.termination_theory.specs.OrientationCases.{rule_from_equation, addition_rules}
-use Rattle.termination_theory.proofs.AdditionLemmas.{addition_canon_cases}
-use Rattle.termination_theory.proofs.OrientationCaseLemmas.{addition_cases}
-use Rattle.termination_theory.proofs.ChosenCanonLemmas.{sorted_rules, chosen_canon}
+use Rattle.rewriting_theory.specs.Orientation.{NumberedRule}
+use Rattle.rewriting_theory.specs.OrderCases.{later_above}
+use Rattle.rewriting_theory.specs.OrientationCases.{rule_from_equation, addition_rules}
+use Rattle.rewriting_theory.proofs.AdditionLemmas.{addition_canon_cases}
+use Rattle.rewriting_theory.proofs.OrientationCaseLemmas.{addition_cases}
+use Rattle.rewriting_theory.proofs.ChosenCanonLemmas.{sorted_rules, chosen_canon}
 use Rattle.certificate_theory.specs.Certified.{IsFit}
 use Rattle.certificate_theory.specs.Addition.{added, with_sum, summed, all_summed, addition}
 use Rattle.certificate_theory.proofs.ArgumentLemmas.{argument_normal}

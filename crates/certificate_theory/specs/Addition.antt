@@ -3,7 +3,7 @@
 use Rattle.std.specs.Prelude.{ℕ, zero, suc}
 use Rattle.lotos_base.specs.Term.{Term, variable, node, Terms, no_terms, term_then}
 use Rattle.lotos_base.specs.SmallData.{natural_data, successor, plus}
-use Rattle.termination_theory.specs.OrientationCases.{addition_rules}
+use Rattle.rewriting_theory.specs.OrientationCases.{addition_rules}
 use Rattle.certificate_theory.specs.Splits.{Theory}
 
 -- The normal form of the sum of two terms in normal form: Succ is taken out of the left one.

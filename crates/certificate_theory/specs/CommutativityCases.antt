@@ -5,7 +5,7 @@ use Rattle.lotos_base.specs.Sorting.{IsGroundOf}
 use Rattle.lotos_base.specs.Equation.{Equation}
 use Rattle.lotos_base.specs.Equality.{forward, Equal}
 use Rattle.lotos_base.specs.SmallData.{example_equation, natural_signature, natural_data, nought, successor, plus, x_natural, y_natural}
-use Rattle.termination_theory.specs.OrientationCases.{addition_rules}
+use Rattle.rewriting_theory.specs.OrientationCases.{addition_rules}
 use Rattle.certificate_theory.specs.InductionCertificate.{Cover, PatternTree, split_pattern, leaf_here, Statement, Side, left_side, right_side, Source, by_lemma, by_hypothesis, ProofLine, split_variable, use_it, same_sides, Lemma, Certificate}
 use Rattle.certificate_theory.specs.Covers.{IsCoveredBy}
 use Rattle.certificate_theory.specs.Certified.{IsFit, IsCertificateOver, IsCertified}

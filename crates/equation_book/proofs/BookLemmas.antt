@@ -13,7 +13,7 @@ use Rattle.term_store.specs.StoreCanon.{store_canon, store_chooses}
 use Rattle.lotos_base.specs.Equation.{Data}
 use Rattle.rewriting_theory.specs.ChosenForm.{Chosen}
 use Rattle.rewriting_theory.proofs.ChosenLemmas.{chosen_one}
-use Rattle.termination_theory.proofs.ChosenCanonLemmas.{chosen_decide}
+use Rattle.rewriting_theory.proofs.ChosenCanonLemmas.{chosen_decide}
 use Rattle.sort_terms.specs.EquationView.{IsSortedFlat, data_of, equation_of}
 use Rattle.sort_terms.specs.ProfiledTerm.{ProfiledTerm, IsOf, head_sort}
 use Rattle.sort_terms.specs.SignatureView.{signature_of}

@@ -4,8 +4,8 @@ use Rattle.lotos_base.specs.Equation.{HasSortedSides}
 use Rattle.rewriting_theory.specs.ChosenForm.{Chooses}
 use Rattle.rewriting_theory.specs.NormalForm.{Normalises}
 use Rattle.rewriting_theory.proofs.PublicLemmas.{chosen_rewritten, chosen_normal}
-use Rattle.termination_theory.specs.Orientation.{IsOrientation}
-use Rattle.termination_theory.proofs.ChosenCanonLemmas.{chosen_canon}
+use Rattle.rewriting_theory.specs.Orientation.{IsOrientation}
+use Rattle.rewriting_theory.proofs.ChosenCanonLemmas.{chosen_canon}
 use Rattle.sort_terms.specs.EquationView.{data_of}
 use Rattle.path_order.specs.RulesView.{rules_in, plain_rules_in, precedence_in}
 use Rattle.path_order.proofs.RulesLemmas.{rules_have_forms, rules_well_formed}

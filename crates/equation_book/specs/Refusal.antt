@@ -3,8 +3,8 @@ use Rattle.std.specs.Prelude.{List}
 use Rattle.lotos_base.specs.Equation.{Data}
 use Rattle.lotos_base.specs.Signature.{Signature}
 use Rattle.rewriting_theory.specs.Rewriting.{AreConfluent}
-use Rattle.termination_theory.specs.Precedence.{Precedence}
-use Rattle.termination_theory.specs.Orientation.{NumberedRule, rules_of, IsOrientation, IsFirstUnorientable}
+use Rattle.rewriting_theory.specs.Precedence.{Precedence}
+use Rattle.rewriting_theory.specs.Orientation.{NumberedRule, rules_of, IsOrientation, IsFirstUnorientable}
 use Rattle.sort_terms.specs.SortedView.{term_in}
 use Rattle.lotos_base.specs.WrittenTerm.{ListedOperation}
 use Rattle.path_order.specs.OrderFaultView.{IsOrderFault}

@@ -6,4 +6,6 @@ pub mod Joining
 pub mod Values
 pub mod Keeping
 pub mod Instances
+pub mod EntryTrees
+pub mod Parts
 pub mod HandedOn

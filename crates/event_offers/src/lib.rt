@@ -6,15 +6,19 @@
 pub mod copies;
 pub mod drafts;
 pub mod entries;
+pub mod entry_trees;
 pub mod joining;
 pub mod labels;
 pub mod lists;
 pub mod menus;
+pub mod parts;
 pub mod rebuilding;
 pub mod renaming;
 pub mod valued;
 
 pub use behaviour_tree::{Label, Spec};
 pub use drafts::{Draft, Entry};
+pub use entry_trees::EntryTree;
 pub use joining::join_offers;
 pub use menus::Menu;
+pub use parts::MenuPart;

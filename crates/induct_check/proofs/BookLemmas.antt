@@ -6,8 +6,8 @@ use Rattle.equation_book.specs.declared.book.Book.{Book}
 use Rattle.path_order.specs.RulesView.{rules_in, plain_rules_in, precedence_in}
 use Rattle.path_order.specs.declared.rules.Rules.{Rules}
 use Rattle.sort_terms.specs.EquationView.{data_of}
-use Rattle.termination_theory.specs.Orientation.{NumberedRule, rules_of}
-use Rattle.termination_theory.proofs.ChosenCanonLemmas.{sorted_rules}
+use Rattle.rewriting_theory.specs.Orientation.{NumberedRule, rules_of}
+use Rattle.rewriting_theory.proofs.ChosenCanonLemmas.{sorted_rules}
 use Rattle.induct_parts.specs.HandedOn.{Theory, AreSortedRulesOf}
 use Rattle.induct_parts.specs.SettingView.{known_theory}
 use Rattle.induct_check.specs.BookView.{book_theory}

@@ -17,7 +17,7 @@ use Rattle.behaviour_tree.specs.StateView.{stands_for, state_of}
 use Rattle.behaviour_tree.specs.declared.definitions.Spec.{Spec}
 use Rattle.behaviour_tree.specs.declared.states.Node.{Node}
 use Rattle.behaviour_tree.specs.declared.states.State.{State}
-use Rattle.draft_parts.specs.HandedOn.{plain_entry, Draft, Entry, Menu}
+use Rattle.draft_parts.specs.HandedOn.{plain_entry, Draft, Entry, Menu, menu_entries}
 use Rattle.draft_parts.specs.Lists.{plain_drafts}
 use Rattle.menu_builder.specs.Placed.{menu_basis_of}
 use Rattle.menu_builder.specs.NodeNumbers.{above_node}
@@ -79,7 +79,7 @@ module _ (data_ : Data) (canon : Term → Term) (spec : Spec) (node : Node) wher
 -- the menu of a state has the entries of its node
 pub menu_exact : (data_ : Data) (canon : Term → Term) (spec : Spec) (state : State) (node : Node) (made : List Entry) (menu : Menu)
     → node ≡ state.node → Exact data_ canon (specification_of spec).processes (stands_for node) (map plain_entry made)
-    → menu.entries.items ≡ made → Exact data_ canon (specification_of spec).processes (state_of state) (entries_in menu)
+    → (menu_entries menu) ≡ made → Exact data_ canon (specification_of spec).processes (state_of state) (entries_in menu)
 menu_exact data_ canon spec state node made menu is exact e =
     subst (λ (n : Node). Exact data_ canon (specification_of spec).processes (stands_for n) (entries_in menu)) is
     (subst (λ (entries : List Entry). Exact data_ canon (specification_of spec).processes (stands_for node) (map plain_entry entries))

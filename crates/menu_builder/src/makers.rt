@@ -7,7 +7,7 @@ ghost use Rattle.behaviour_tree.specs.DefinitionView.{specification_of};
 ghost use Rattle.behaviour_tree.specs.Over.{IsSpecOver, IsStateOf};
 ghost use Rattle.behaviour_tree.specs.StateView.{state_of};
 ghost use Rattle.behaviour_tree.specs.declared.definitions.Spec.{Spec};
-ghost use Rattle.draft_parts.specs.HandedOn.{IsEntryOver, KeepsData};
+ghost use Rattle.draft_parts.specs.HandedOn.{IsEntryOver, KeepsData, menu_entries};
 ghost use Rattle.lotos_base.specs.Equation.{Data};
 ghost use Rattle.lotos_base.specs.Signature.{IsWellFormedSignature};
 ghost use Rattle.lotos_base.specs.Term.{Term};
@@ -49,7 +49,7 @@ pub trait MenuMaker: Drop {
             (D.canon decider.old) (specification_of spec.now).processes (state_of state.now)
             (entries_in menu)) }
         ensures over { IfOk result (λ menu. Every
-            (IsEntryOver (D.known_data decider.old).signature) menu.entries.items) }
+            (IsEntryOver (D.known_data decider.old).signature) (menu_entries menu)) }
         ensures suits_after { suits self.new spec.now (D.known_data decider.old)
             (D.canon decider.old) }
         ensures same_known { KeepsData D.known_data D.canon decider.old decider.new };

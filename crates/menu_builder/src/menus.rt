@@ -14,7 +14,7 @@ ghost use Rattle.behaviour_tree.specs.DefinitionView.{specification_of};
 ghost use Rattle.behaviour_tree.specs.Over.{IsSpecOver, IsStateOf};
 ghost use Rattle.behaviour_tree.specs.StateView.{stands_for, state_of};
 ghost use Rattle.draft_parts.specs.DraftTerms.{HasTermsOf};
-ghost use Rattle.draft_parts.specs.HandedOn.{IsEntryOver, KeepsData, plain_draft, plain_entry};
+ghost use Rattle.draft_parts.specs.HandedOn.{IsEntryOver, KeepsData, plain_draft, plain_entry, menu_entries};
 ghost use Rattle.draft_parts.specs.Lists.{plain_drafts};
 ghost use Rattle.lotos_base.specs.Signature.{IsWellFormedSignature, Signature};
 ghost use Rattle.menu_builder.specs.Menus.{entries_in};
@@ -52,7 +52,7 @@ pub fn menu<D: Deciding>(
     ensures exact { IfOk result (λ menu. Exact (D.known_data decider.old) (D.canon decider.old)
         (specification_of spec.now).processes (state_of state.now) (entries_in menu)) }
     ensures over { IfOk result
-        (λ menu. Every (IsEntryOver (D.known_data decider.old).signature) menu.entries.items) }
+        (λ menu. Every (IsEntryOver (D.known_data decider.old).signature) (menu_entries menu)) }
     ensures same_known { KeepsData D.known_data D.canon decider.old decider.new }
 {
     let node = state.node();

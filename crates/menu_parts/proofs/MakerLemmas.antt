@@ -1,5 +1,5 @@
 -- What a maker of menus gives and keeps.
-use Rattle.std.proofs.Common.{◌≡◌, ◌∙◌, List, Option, None, Some, map, refl, ap, sym, subst}
+use Rattle.std.proofs.Common.{◌≡◌, ◌∙◌, Option, None, Some, map, refl, ap, sym, subst}
 use Rattle.std.specs.Borrow.{Bor}
 use Rattle.std.specs.Prelude.{IfSome}
 use Rattle.std.specs.Option.{option_copied}
@@ -13,20 +13,22 @@ use Rattle.behaviour_semantics.specs.WellFormed.{Every, IsClosedBehaviour}
 use Rattle.behaviour_tree.specs.Closed.{IsClosedNode}
 use Rattle.behaviour_tree.specs.DefinitionView.{specification_of}
 use Rattle.behaviour_tree.specs.Over.{AreTermsOf, IsStateOf}
-use Rattle.behaviour_tree.specs.StateView.{node_profiles, stands_for, state_of}
+use Rattle.behaviour_tree.specs.StateView.{node_profiles, stands_for}
 use Rattle.behaviour_tree.specs.declared.definitions.Spec.{Spec}
 use Rattle.behaviour_tree.specs.declared.states.Node.{Node}
 use Rattle.behaviour_tree.specs.declared.states.State.{State}
-use Rattle.shared_entries.specs.HandedOn.{IsEntryOver, Menu, entries_in}
-use Rattle.shared_entries.specs.Items.{HasEntryTerms, HasItemTerms, plain_item}
+use Rattle.shared_entries.specs.HandedOn.{IsEntryOver, Menu, MenuPart, entries_in, menu_entries, part_entries, plain_entry}
+use Rattle.shared_entries.specs.Items.{HasEntryTerms, plain_item}
 use Rattle.step_taker.specs.Taken.{Ground, ground_of}
-use Rattle.step_taker.specs.Walked.{IsClosedOn, IsPassableNode}
+use Rattle.step_taker.specs.Walked.{IsPassableNode}
 use Rattle.menu_parts.specs.Forms.{IsLawfulGround, IsExactOn}
-use Rattle.menu_parts.specs.KeptMenus.{IsKept, IsKeptFor}
-use Rattle.menu_parts.specs.Spread.{listed_for}
+use Rattle.menu_parts.specs.KeptMenus.{AreKeptBelow, IsKept, IsKeptFor}
+use Rattle.menu_parts.specs.Spread.{AreEntriesOf, listed_for, part_for, spread_items}
 use Rattle.menu_parts.specs.declared.kept.Kept.{Kept}
-use Rattle.menu_parts.proofs.KeptLemmas.{exact_for, root_listed}
+use Rattle.menu_parts.specs.declared.kept.Spread.{Spread}
+use Rattle.menu_parts.proofs.KeptLemmas.{exact_for}
 use Rattle.menu_parts.proofs.OverLemmas.{entries_over}
+use Rattle.menu_parts.proofs.SpreadKept.{kept_part}
 
 -- what is kept, borrowed
 pub kept_borrowed : (basis : Ground) (o : Option (Bor (Rc Kept Global))) (kept : Option (Rc Kept Global)) → option_copied o ≡ kept
@@ -48,18 +50,38 @@ copied_node data_ canon spec state given copied made is same terms closed at ove
   states = subst (λ (n : Node). IsClosedNode n) (sym at) (closed (subst (λ (n : Node). IsClosedNode n) (sym is) h));
 }
 
+-- the entries of a menu that was made of what is kept
+pub entries_kept : (basis : Ground) (node : Node) (kept given : Kept) (menu : Menu) → given ≡ kept → IsKeptFor basis node kept
+    → ((basis : Ground) → IsKept basis given
+    → AreEntriesOf basis.data_.signature (listed_for given).items.items (menu_entries menu))
+    → AreEntriesOf basis.data_.signature (listed_for kept).items.items (menu_entries menu)
+entries_kept basis node kept given menu e h all =
+    subst (λ (k : Kept). AreEntriesOf basis.data_.signature (listed_for k).items.items (menu_entries menu)) e
+    (all basis (subst (IsKept basis) (sym e) h.0))
+
+-- the menu that shares what parts side by side have
+pub sharing_kept : (basis : Ground) (kept : Kept) (s t : Spread) (part owned : MenuPart) (menu : Menu) → t ≡ s → part ≡ part_for t
+    → part_entries owned ≡ part_entries part → menu_entries menu ≡ part_entries owned
+    → AreKeptBelow basis (λ entries. entries) s
+    → map plain_item (listed_for kept).items.items ≡ map plain_item (spread_items s)
+    → AreEntriesOf basis.data_.signature (listed_for kept).items.items (menu_entries menu)
+sharing_kept basis kept s t part owned menu at p o m below listed =
+    let has = kept_part basis (λ entries. entries) s below in
+    let all = m ∙ (o ∙ ap part_entries (p ∙ ap part_for at)) in
+    record {
+      same = ap (map plain_entry) all ∙ (has.same ∙ sym listed);
+      terms = subst (Every (HasEntryTerms basis.data_.signature)) (sym all) has.terms;
+    }
+
 module _ (basis : Ground) (node : Node) (kept : Kept) (h : IsKeptFor basis node kept) (menu : Menu)
-    (same : entries_in menu ≡ map plain_item (listed_for kept).items.items) where
+    (has : AreEntriesOf basis.data_.signature (listed_for kept).items.items (menu_entries menu)) where
   -- the menu at the root is the exact one of a state
   pub menu_exact : (b : Behaviour) → stands_for node ≡ b → IsExactOn basis b (entries_in menu)
   menu_exact b e =
-      subst (IsExactOn basis b) (sym same)
+      subst (IsExactOn basis b) (sym has.same)
       (subst (λ (x : Behaviour). IsExactOn basis x (map plain_item (listed_for kept).items.items)) e (exact_for basis node kept h))
 
-  pub menu_over : IsLawfulGround basis → IsPassableNode basis node
-      → (Every (HasItemTerms basis.data_.signature) (listed_for kept).items.items
-      → Every (HasEntryTerms basis.data_.signature) menu.entries.items)
-      → Every (IsEntryOver basis.data_.signature) menu.entries.items
-  menu_over base passable terms =
-      entries_over basis (stands_for node) base passable.passable.closed menu.entries.items (menu_exact (stands_for node) refl)
-      (terms (root_listed basis kept h.0).terms)
+  pub menu_over : IsLawfulGround basis → IsPassableNode basis node → Every (IsEntryOver basis.data_.signature) (menu_entries menu)
+  menu_over base passable =
+      entries_over basis (stands_for node) base passable.passable.closed (menu_entries menu) (menu_exact (stands_for node) refl)
+      has.terms

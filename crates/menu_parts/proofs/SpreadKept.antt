@@ -15,12 +15,14 @@ use Rattle.behaviour_semantics.proofs.ListLemmas.{Every-append}
 use Rattle.behaviour_tree.specs.StateView.{stands_for}
 use Rattle.behaviour_tree.specs.declared.states.Node.{Node}
 use Rattle.menu_parts.specs.Forms.{IsLawfulGround, IsExactOn, IsMadeBeside}
-use Rattle.shared_entries.specs.Items.{HasItemTerms, IsItemOver, plain_item}
-use Rattle.menu_parts.specs.KeptMenus.{AreKeptBelow, IsKept, IsKeptAs, IsKeptFor, IsListedMenu, IsSpreadFor}
+use Rattle.shared_entries.specs.HandedOn.{MenuPart, part_entries, plain_entry}
+use Rattle.shared_entries.specs.HandedOn.{Entry as SharedEntry}
+use Rattle.shared_entries.specs.Items.{HasEntryTerms, HasItemTerms, IsItemOver, entry_terms, item_terms, plain_item}
+use Rattle.menu_parts.specs.KeptMenus.{AreKeptBelow, HasBoth, IsKept, IsKeptAs, IsKeptFor, IsListedMenu, IsSpreadFor}
 use Rattle.shared_entries.specs.PartMenus.{joins, relabel_menu}
 use Rattle.shared_entries.specs.PartRule.{alone_rule, under_rule}
 use Rattle.shared_entries.specs.Rules.{AreEntriesMadeBy}
-use Rattle.menu_parts.specs.Spread.{AreByWay, IsOpened, IsRelabelled, NoneEnds, listed_for, of_left, of_right, spread_items, spread_menu}
+use Rattle.menu_parts.specs.Spread.{AreByWay, AreEntriesOf, IsOpened, IsRelabelled, NoneEnds, listed_for, of_left, of_right, part_for, spread_items, spread_menu}
 use Rattle.shared_entries.specs.declared.items.Item.{Item}
 use Rattle.menu_parts.specs.declared.kept.Kept.{Kept, Beside}
 use Rattle.menu_parts.specs.declared.kept.Listed.{Listed}
@@ -30,16 +32,16 @@ use Rattle.menu_parts.specs.declared.opening.Opened.{Opened}
 use Rattle.step_taker.specs.Taken.{Ground}
 use Rattle.step_taker.specs.Walked.{IsClosedOn, IsPassableNode}
 use Rattle.menu_parts.proofs.OverLemmas.{items_over}
-use Rattle.menu_parts.proofs.KeptLemmas.{kept_again, root_listed}
+use Rattle.menu_parts.proofs.KeptLemmas.{given_terms, kept_again, root_listed}
 use Rattle.menu_parts.proofs.SpreadLemmas.{Splits, by_rule_splits, parallel_none, parallel_splits, relabel_none, solved_of_left, solved_of_right}
 
 -- the items of all parts are what the whole has of their menu
 pub kept_items : (basis : Ground) (way : List Entry → List Entry) → Splits way → (s : Spread) → AreKeptBelow basis way s
     → map plain_item (spread_items s) ≡ way (spread_menu s)
-kept_items basis way h (spread.Side' _ kept own) k = k.1.same
+kept_items basis way h (spread.Side' _ kept own part) k = k.1.same
 kept_items basis way h (spread.Under' pairs _ part) k =
     kept_items basis (λ entries. way (relabel_menu pairs.items entries)) (by_rule_splits (under_rule relabelled pairs.items) way h) part k.1
-kept_items basis way h (spread.Both' _ left _ right) k =
+kept_items basis way h (spread.Both' _ left _ right part) k =
     map-append plain_item (spread_items left) (spread_items right)
     ∙ (ap (λ (xs : List Entry). xs ++ map plain_item (spread_items right))
     (kept_items basis (λ entries. way (of_left entries)) (by_rule_splits (alone_rule no_gates left_side) way h) left k.0)
@@ -50,30 +52,73 @@ kept_items basis way h (spread.Both' _ left _ right) k =
 -- their terms are of the signature
 pub kept_item_terms : (basis : Ground) (way : List Entry → List Entry) (s : Spread) → AreKeptBelow basis way s
     → Every (HasItemTerms basis.data_.signature) (spread_items s)
-kept_item_terms basis way (spread.Side' _ kept own) k = k.1.terms
+kept_item_terms basis way (spread.Side' _ kept own part) k = k.1.terms
 kept_item_terms basis way (spread.Under' pairs _ part) k =
     kept_item_terms basis (λ entries. way (relabel_menu pairs.items entries)) part k.1
-kept_item_terms basis way (spread.Both' _ left _ right) k =
+kept_item_terms basis way (spread.Both' _ left _ right part) k =
     Every-append (HasItemTerms basis.data_.signature) (spread_items left) (spread_items right)
     (kept_item_terms basis (λ entries. way (of_left entries)) left k.0)
     (kept_item_terms basis (λ entries. way (of_right entries)) right k.1)
+
+-- what menus share of them has the same entries
+pub kept_part : (basis : Ground) (way : List Entry → List Entry) (s : Spread) → AreKeptBelow basis way s
+    → AreEntriesOf basis.data_.signature (spread_items s) (part_entries (part_for s))
+kept_part basis way (spread.Side' _ kept own part) k = k.2
+kept_part basis way (spread.Under' pairs _ inner) k = kept_part basis (λ entries. way (relabel_menu pairs.items entries)) inner k.1
+kept_part basis way (spread.Both' _ left _ right part) k = k.2
+
+-- entries that were made of the items
+pub entries_given : (signature : Signature) (items : List Item) (made entries : List SharedEntry) → entries ≡ made
+    → map plain_entry made ≡ map plain_item items → map entry_terms made ≡ map item_terms items → Every (HasItemTerms signature) items
+    → AreEntriesOf signature items entries
+entries_given signature items made entries e same terms h = subst (AreEntriesOf signature items) (sym e) (record {
+  same = same;
+  terms = given_terms signature items made terms h;
+})
+
+-- the entries of two parts one behind the other
+joined_entries : (signature : Signature) (xs ys : List Item) (es fs gs : List SharedEntry) → gs ≡ es ++ fs
+    → AreEntriesOf signature xs es → AreEntriesOf signature ys fs → AreEntriesOf signature (xs ++ ys) gs
+joined_entries signature xs ys es fs gs e h k = record {
+  same = ap (map plain_entry) e ∙ (map-append plain_entry es fs ∙ (ap (λ (ts : List Entry). ts ++ map plain_entry fs) h.same
+      ∙ (ap (λ (ts : List Entry). map plain_item xs ++ ts) k.same ∙ sym (map-append plain_item xs ys))));
+  terms = subst (Every (HasEntryTerms signature)) (sym e) (Every-append (HasEntryTerms signature) es fs h.terms k.terms);
+}
+
+-- the parts of both sides
+pub has_both : (first second : Rc Spread Global) (one other : Spread) (p q part : MenuPart) (made : Spread) → one ≡ first.value
+    → other ≡ second.value → p ≡ part_for one → q ≡ part_for other → made ≡ Both first second part
+    → part_entries part ≡ part_entries p ++ part_entries q → HasBoth first.value second.value made
+has_both first second one other p q part made a b c d e same = record {
+  kept = λ basis way h k. subst (AreKeptBelow basis way) (sym e) (
+    h,
+    k,
+    joined_entries basis.data_.signature (spread_items first.value) (spread_items second.value)
+        (part_entries (part_for first.value)) (part_entries (part_for second.value)) (part_entries part)
+        (same ∙ (ap (λ (x : MenuPart). part_entries x ++ part_entries q) (c ∙ ap part_for a)
+        ∙ ap (λ (x : MenuPart). part_entries (part_for first.value) ++ part_entries x) (d ∙ ap part_for b)))
+        (kept_part basis (λ entries. way (of_left entries)) first.value h)
+        (kept_part basis (λ entries. way (of_right entries)) second.value k),
+  );
+  menu = ap spread_menu e;
+}
 
 -- what is not one part does not end
 pub under_none : (basis : Ground) (way : List Entry → List Entry) (pairs : Vec (ℕ × ℕ) Global) (part : Rc Spread Global)
     → AreKeptBelow basis way (Under pairs part) → NoneEnds (spread_menu (Under pairs part))
 under_none basis way pairs part k = relabel_none pairs.items (spread_menu part.value) k.0
 
-pub both_none : (left right : Rc Spread Global) → NoneEnds (spread_menu (Both left right))
-both_none left right = parallel_none (spread_menu left.value) (spread_menu right.value)
+pub both_none : (left right : Rc Spread Global) (part : MenuPart) → NoneEnds (spread_menu (Both left right part))
+both_none left right part = parallel_none (spread_menu left.value) (spread_menu right.value)
 
 module _ (basis : Ground) (way : List Entry → List Entry) (b : Behaviour) where
   abbrev IsHere : Spread → Type 0
   IsHere s = IsSpreadFor basis way b s
 
-  pub side_here : (kept : Rc Kept Global) (own : Vec Item Global) (made : Spread) → made ≡ Side kept own
+  pub side_here : (kept : Rc Kept Global) (own : Vec Item Global) (part : MenuPart) (made : Spread) → made ≡ Side kept own part
       → IsKeptAs basis b kept.value → AreByWay basis.data_.signature way (listed_for kept.value).items.items own.items
-      → IsSpreadFor basis way b made
-  side_here kept own made e h k = subst IsHere (sym e) ((h.0, k), h.1)
+      → AreEntriesOf basis.data_.signature own.items (part_entries part) → IsSpreadFor basis way b made
+  side_here kept own part made e h k l = subst IsHere (sym e) ((h.0, k, l), h.1)
 
   pub under_here : (part : Behaviour) (pairs : Vec (ℕ × ℕ) Global) (inner : Rc Spread Global) (made : Spread) → made ≡ Under pairs inner
       → NoneEnds (spread_menu inner.value) → IsRelabelled basis pairs.items part b
@@ -81,14 +126,16 @@ module _ (basis : Ground) (way : List Entry → List Entry) (b : Behaviour) wher
   under_here part pairs inner made e none form h =
       subst IsHere (sym e) ((none, h.0), form (spread_menu inner.value) h.1)
 
-  module _ (left right : Behaviour) (first second : Rc Spread Global) (made : Spread) (e : made ≡ Both first second)
+  module _ (left right : Behaviour) (first second : Rc Spread Global) (made : Spread) (e : HasBoth first.value second.value made)
       (form : IsMadeBeside basis no_gates left right b)
       (h : IsSpreadFor basis (λ entries. way (of_left entries)) left first.value)
       (k : IsSpreadFor basis (λ entries. way (of_right entries)) right second.value) where
     both_here : AllSolveTo basis.canon (joins basis.data_ no_gates (spread_menu first.value) (spread_menu second.value)) []
         → IsSpreadFor basis way b made
-    both_here solved =
-        subst IsHere (sym e) ((h.0, k.0), form (spread_menu first.value) (spread_menu second.value) [] h.1 k.1 solved)
+    both_here solved = (
+      e.kept basis way h.0 k.0,
+      subst (IsExactOn basis b) (sym e.menu) (form (spread_menu first.value) (spread_menu second.value) [] h.1 k.1 solved),
+    )
 
     pub both_by_left : NoneEnds (spread_menu first.value) → IsSpreadFor basis way b made
     both_by_left none = both_here (solved_of_left basis.data_ basis.canon (spread_menu first.value) (spread_menu second.value) none)
@@ -112,7 +159,7 @@ beside_for basis node listed s made is e h same terms =
           (subst (λ (entries : List Entry). IsExactOn basis (stands_for node) entries) (sym menu) h.1);
       terms = terms here;
     } in
-    kept_again basis node (Beside listed s) made e (list, h.0) (ap stands_for is)
+    kept_again basis node (Beside listed s) made e (list, h.0, same here) (ap stands_for is)
 
 -- what is kept for a behaviour is exact for it
 pub kept_as_for : (basis : Ground) (node : Node) (k : Kept) → IsKeptFor basis node k → IsKeptAs basis (stands_for node) k

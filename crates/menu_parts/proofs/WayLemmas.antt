@@ -11,6 +11,7 @@ use Rattle.behaviour_semantics.specs.Shape.{left_side, right_side, relabelled}
 use Rattle.behaviour_semantics.specs.Solving.{Entry}
 use Rattle.behaviour_semantics.specs.WellFormed.{Every}
 use Rattle.behaviour_semantics.proofs.EveryLemmas.{every_back, every_front}
+use Rattle.shared_entries.specs.HandedOn.{MenuPart}
 use Rattle.shared_entries.specs.Items.{HasItemTerms, plain_item}
 use Rattle.shared_entries.specs.PartRule.{alone_rule, by_rule, under_rule}
 use Rattle.shared_entries.specs.Rules.{AreEntriesMadeBy}
@@ -64,8 +65,9 @@ HavePushedTerms items more s =
     (signature : Signature) → Every (HasItemTerms signature) items → Every (HasItemTerms signature) (spread_items s)
     → Every (HasItemTerms signature) more
 
-module _ (items between more : List Item) (left right : Rc Spread Global) (s first second : Spread) (is : s ≡ Both left right)
-    (e : first ≡ left.value) (f : second ≡ right.value) (h : ArePushed items between first) (k : ArePushed between more second) where
+module _ (items between more : List Item) (left right : Rc Spread Global) (part : MenuPart) (s first second : Spread)
+    (is : s ≡ Both left right part) (e : first ≡ left.value) (f : second ≡ right.value) (h : ArePushed items between first)
+    (k : ArePushed between more second) where
   pub both_pushed : ArePushed items more s
   both_pushed = subst (ArePushed items more) (sym is) (λ signature terms.
       let xs = spread_items left.value in
@@ -76,10 +78,11 @@ module _ (items between more : List Item) (left right : Rc Spread Global) (s fir
       ∙ (append_assoc (map plain_item items) (map plain_item xs) (map plain_item ys)
       ∙ ap (λ (zs : List Entry). map plain_item items ++ zs) (sym (map-append plain_item xs ys)))))
 
-pub both_pushed_terms : (items between more : List Item) (left right : Rc Spread Global) (s first second : Spread) → s ≡ Both left right
-    → first ≡ left.value → second ≡ right.value → HavePushedTerms items between first → HavePushedTerms between more second
+pub both_pushed_terms : (items between more : List Item) (left right : Rc Spread Global) (part : MenuPart) (s first second : Spread)
+    → s ≡ Both left right part → first ≡ left.value → second ≡ right.value → HavePushedTerms items between first
+    → HavePushedTerms between more second
     → HavePushedTerms items more s
-both_pushed_terms items between more left right s first second is e f h k =
+both_pushed_terms items between more left right part s first second is e f h k =
     subst (HavePushedTerms items more) (sym is) (λ signature earlier terms.
     let xs = spread_items left.value in
     let ys = spread_items right.value in

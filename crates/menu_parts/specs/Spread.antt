@@ -9,7 +9,9 @@ use Rattle.behaviour_semantics.specs.Solving.{Entry}
 use Rattle.behaviour_semantics.specs.WellFormed.{Every}
 use Rattle.behaviour_tree.specs.StateView.{stands_for}
 use Rattle.menu_parts.specs.Forms.{IsExactOn, IsMadeBeside}
-use Rattle.shared_entries.specs.Items.{HasItemTerms, plain_item}
+use Rattle.shared_entries.specs.HandedOn.{MenuPart, plain_entry}
+use Rattle.shared_entries.specs.HandedOn.{Entry as SharedEntry}
+use Rattle.shared_entries.specs.Items.{HasEntryTerms, HasItemTerms, plain_item}
 use Rattle.shared_entries.specs.PartMenus.{parallel_menu, relabel_menu}
 use Rattle.shared_entries.specs.PartRule.{all_by_rule, alone_rule}
 use Rattle.shared_entries.specs.declared.items.Item.{Item}
@@ -42,6 +44,11 @@ pub record AreByWay (signature : Signature) (way : List Entry → List Entry) (g
   pub same : map plain_item made ≡ way (map plain_item given)
   pub terms : Every (HasItemTerms signature) made
 
+-- The entries are those that the items stand for, and their terms are of the signature.
+pub record AreEntriesOf (signature : Signature) (items : List Item) (entries : List SharedEntry) : Type 0 where
+  pub same : map plain_entry entries ≡ map plain_item items
+  pub terms : Every (HasEntryTerms signature) entries
+
 -- the menu of the node itself
 abbrev pub listed_for : Kept → Listed
 listed_for (Whole listed) = listed
@@ -51,15 +58,21 @@ listed_for (Beside' listed _ spread) = listed
 
 -- the menu of parts side by side, from those of the parts, where no sides end together
 abbrev pub spread_menu : Spread → List Entry
-spread_menu (Side' _ kept own) = map plain_item (listed_for kept).items.items
+spread_menu (Side' _ kept own part) = map plain_item (listed_for kept).items.items
 spread_menu (Under' pairs _ part) = relabel_menu pairs.items (spread_menu part)
-spread_menu (Both' _ left _ right) = parallel_menu no_gates (spread_menu left) (spread_menu right) []
+spread_menu (Both' _ left _ right part) = parallel_menu no_gates (spread_menu left) (spread_menu right) []
 
 -- the items of all parts as they are for the whole, in order
 abbrev pub spread_items : Spread → List Item
-spread_items (Side' _ kept own) = own.items
+spread_items (Side' _ kept own part) = own.items
 spread_items (Under' pairs _ part) = spread_items part
-spread_items (Both' _ left _ right) = spread_items left ++ spread_items right
+spread_items (Both' _ left _ right part) = spread_items left ++ spread_items right
+
+-- the same as menus share them
+abbrev pub part_for : Spread → MenuPart
+part_for (Side' _ kept own part) = part
+part_for (Under' pairs _ inner) = part_for inner
+part_for (Both' _ left _ right part) = part
 
 -- no entry ends
 abbrev pub NoneEnds : List Entry → Type 0

@@ -2,12 +2,14 @@
 
 ghost use Rattle.behaviour_tree.specs.StateView.{stands_for};
 ghost use Rattle.menu_parts.specs.KeptMenus.{AreKeptBelow, IsKept, IsListedMenu};
-ghost use Rattle.menu_parts.specs.Spread.{listed_for};
-ghost use Rattle.std.specs.Prelude.{◌≡◌, ◌↔◌, IfSome, IsTrue};
+ghost use Rattle.menu_parts.specs.Spread.{listed_for, spread_items};
+ghost use Rattle.shared_entries.specs.Items.{plain_item};
+ghost use Rattle.std.specs.Prelude.{◌≡◌, ◌↔◌, IfSome, IsTrue, map};
 ghost use Rattle.step_taker.specs.Taken.{Ground};
 
 use behaviour_tree::Node;
 use same_behaviours::same_nodes;
+use shared_entries::MenuPart;
 use shared_entries::items::Item;
 use std::rc::Rc;
 
@@ -39,12 +41,13 @@ pub enum Kept {
 #[derive(Drop)]
 #[cycle(keeping)]
 pub enum Spread {
-    /// A part, and its entries as they are for the whole.
-    Side(Rc<Kept>, Vec<Item>),
+    /// A part, and its entries as they are for the whole, also as menus share them.
+    Side(Rc<Kept>, Vec<Item>, MenuPart),
     /// The parts under a relabelling.
     Under(Vec<(u32, u32)>, Rc<Spread>),
-    /// The parts of the left side, and those of the right side.
-    Both(Rc<Spread>, Rc<Spread>),
+    /// The parts of the left side, and those of the right side; and the entries of both as they are
+    /// for the whole, as menus share them.
+    Both(Rc<Spread>, Rc<Spread>, MenuPart),
 }
 
 impl Kept {
@@ -101,8 +104,11 @@ impl Kept {
 
     /// The parts side by side, if it was made from such.
     pub fn spread(&self) -> Option<&Rc<Spread>>
-        ensures { (basis : Ground) → IsKept basis self.now
+        ensures kept { (basis : Ground) → IsKept basis self.now
             → IfSome result (λ s. AreKeptBelow basis (λ entries. entries) s.now.value) }
+        ensures listed { (basis : Ground) → IsKept basis self.now
+            → IfSome result (λ s. map plain_item (listed_for self.now).items.items
+            ≡ map plain_item (spread_items s.now.value)) }
     {
         match self {
             Kept::Beside(_, spread) => Some(spread),

@@ -1,14 +1,12 @@
 //! A maker of menus that keeps them for the parts of states.
 
-ghost use Rattle.behaviour_semantics.specs.WellFormed.{Every};
 ghost use Rattle.lotos_base.specs.Equation.{Data};
-ghost use Rattle.lotos_base.specs.Signature.{Signature};
 ghost use Rattle.lotos_base.specs.Term.{Term};
-ghost use Rattle.shared_entries.specs.HandedOn.{entries_in};
-ghost use Rattle.menu_parts.specs.KeptMenus.{MakerSuits};
-ghost use Rattle.shared_entries.specs.Items.{HasEntryTerms, HasItemTerms, plain_item};
-ghost use Rattle.menu_parts.specs.Spread.{listed_for};
-ghost use Rattle.std.specs.Prelude.{◌≡◌, IfOk, map};
+ghost use Rattle.shared_entries.specs.HandedOn.{menu_entries};
+ghost use Rattle.menu_parts.specs.KeptMenus.{IsKept, MakerSuits};
+ghost use Rattle.menu_parts.specs.Spread.{AreEntriesOf, listed_for};
+ghost use Rattle.std.specs.Prelude.{IfOk};
+ghost use Rattle.step_taker.specs.Taken.{Ground};
 
 use crate::components::Making;
 use crate::kept::Kept;
@@ -86,14 +84,14 @@ impl MenuMaker for PartMenus {
     }
 }
 
-// The menu that is kept, which shares nothing.
+// The menu that is kept. Entries of parts side by side are shared with earlier menus.
 fn menu_of(kept: &Kept) -> Result<Menu, NoMemory>
-    ensures same { IfOk result (λ menu. entries_in menu
-        ≡ map plain_item (listed_for kept.now).items.items) }
-    ensures terms { IfOk result (λ menu. (signature : Signature)
-        → Every (HasItemTerms signature) (listed_for kept.now).items.items
-        → Every (HasEntryTerms signature) menu.entries.items) }
+    ensures { IfOk result (λ menu. (basis : Ground) → IsKept basis kept.now
+        → AreEntriesOf basis.data_.signature (listed_for kept.now).items.items
+        (menu_entries menu)) }
 {
-    let entries = entries_of(kept.items())?;
-    Ok(Menu::of(entries))
+    match kept.spread() {
+        None => Ok(Menu::of(entries_of(kept.items())?)),
+        Some(spread) => Ok(Menu::sharing(spread.part().owner()?)),
+    }
 }

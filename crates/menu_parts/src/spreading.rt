@@ -1,12 +1,15 @@
 //! Kept menus of parts side by side, made of those of the parts.
 
 ghost use Rattle.behaviour_semantics.specs.Behaviour.{Behaviour, no_gates};
+ghost use Rattle.behaviour_semantics.specs.WellFormed.{Every};
 ghost use Rattle.behaviour_tree.specs.StateView.{stands_for};
-ghost use Rattle.shared_entries.specs.HandedOn.{KeepsData};
+ghost use Rattle.lotos_base.specs.Signature.{Signature};
+ghost use Rattle.shared_entries.specs.HandedOn.{KeepsData, part_entries};
+ghost use Rattle.shared_entries.specs.Items.{HasItemTerms};
 ghost use Rattle.menu_parts.specs.Forms.{IsLawfulGround, IsMadeBeside};
-ghost use Rattle.menu_parts.specs.KeptMenus.{IsKeptAs, IsKeptFor, IsSpreadFor};
+ghost use Rattle.menu_parts.specs.KeptMenus.{HasBoth, IsKeptAs, IsKeptFor, IsSpreadFor};
 ghost use Rattle.shared_entries.specs.PartMenus.{relabel_menu};
-ghost use Rattle.menu_parts.specs.Spread.{IsRelabelled, by_way, of_left, of_right};
+ghost use Rattle.menu_parts.specs.Spread.{AreEntriesOf, IsRelabelled, by_way, of_left, of_right};
 ghost use Rattle.std.specs.Prelude.{IfOk};
 ghost use Rattle.step_taker.specs.Taken.{Ground, ground_of};
 ghost use Rattle.step_taker.specs.Walked.{IsPassableNode};
@@ -18,6 +21,8 @@ use crate::ways::Way;
 use behaviour_tree::boxes::{owner, shared};
 use behaviour_tree::{Meet, Node};
 use lotos_base::NoMemory;
+use shared_entries::MenuPart;
+use shared_entries::items::{Item, entries_of};
 use shared_entries::joins::beside;
 use shared_entries::rules::PartRule;
 use sort_terms::Deciding;
@@ -30,7 +35,18 @@ pub fn side_made(alloc: Global, way: &Way<'_>, kept: Rc<Kept>) -> Result<Rc<Spre
         → IsKeptAs basis b kept.value → IsSpreadFor basis (by_way way.now) b made.value) }
 {
     let own = way.entries(kept.items())?;
-    shared(alloc, Spread::Side(kept, own))
+    let part = part_of(alloc, &own)?;
+    shared(alloc, Spread::Side(kept, own, part))
+}
+
+// The entries, as menus share them.
+fn part_of(alloc: Global, items: &Vec<Item>) -> Result<MenuPart, NoMemory>
+    ensures { IfOk result (λ made. (signature : Signature)
+        → Every (HasItemTerms signature) items.now.items
+        → AreEntriesOf signature items.now.items (part_entries made)) }
+{
+    let entries = entries_of(items)?;
+    MenuPart::of(alloc, entries)
 }
 
 /// What is kept for a node with parts side by side, as the menu of that node.
@@ -122,15 +138,23 @@ pub fn both_made<D: Deciding>(
     ensures same_known { KeepsData D.known_data D.canon decider.old decider.new }
 {
     match first.ending() {
-        None => shared(making.alloc, Spread::Both(first, second)),
+        None => both_of(making.alloc, first, second),
         Some(one) => match second.ending() {
-            None => shared(making.alloc, Spread::Both(first, second)),
+            None => both_of(making.alloc, first, second),
             Some(other) => {
                 let made = both_kept(making, node, left, right, one, other, decider)?;
                 side_made(making.alloc, way, made)
             }
         },
     }
+}
+
+// The parts of both sides, which do not end together.
+fn both_of(alloc: Global, first: Rc<Spread>, second: Rc<Spread>) -> Result<Rc<Spread>, NoMemory>
+    ensures { IfOk result (λ made. HasBoth first.value second.value made.value) }
+{
+    let part = MenuPart::joined(alloc, first.part(), second.part())?;
+    shared(alloc, Spread::Both(first, second, part))
 }
 
 // The menu of a parallel whose sides meet at no gate, from those of the sides.

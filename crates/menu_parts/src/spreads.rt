@@ -13,6 +13,7 @@ ghost use Rattle.menu_parts.specs.Spread.{
   listed_for,
   of_left,
   of_right,
+  part_for,
   spread_items,
   spread_menu,
 };
@@ -33,6 +34,7 @@ ghost use Rattle.step_taker.specs.Taken.{Ground};
 use crate::kept::{Kept, Spread};
 use behaviour_tree::{Label, Node};
 use lotos_base::NoMemory;
+use shared_entries::MenuPart;
 use shared_entries::items::Item;
 use shared_entries::rules::PartRule;
 use std::rc::Rc;
@@ -124,7 +126,7 @@ impl Spread {
             → AreKeptBelow basis way self.now → IfSome result (λ k. IsKept basis k.now.value) }
     {
         match self {
-            Spread::Side(kept, _) => Some(kept),
+            Spread::Side(kept, _, _) => Some(kept),
             _ => None,
         }
     }
@@ -154,7 +156,7 @@ impl Spread {
             s.now.value) }
     {
         match self {
-            Spread::Both(left, _) => Some(left),
+            Spread::Both(left, _, _) => Some(left),
             _ => None,
         }
     }
@@ -167,7 +169,7 @@ impl Spread {
             s.now.value) }
     {
         match self {
-            Spread::Both(_, right) => Some(right),
+            Spread::Both(_, right, _) => Some(right),
             _ => None,
         }
     }
@@ -179,8 +181,19 @@ impl Spread {
             → IsSpreadFor basis way (stands_for node.now) self.now }
     {
         match self {
-            Spread::Side(kept, _) => kept.is_for(node),
+            Spread::Side(kept, _, _) => kept.is_for(node),
             _ => false,
+        }
+    }
+
+    /// The entries of all parts as they are for the whole, as menus share them.
+    pub fn part(&self) -> &MenuPart
+        ensures { result.now ≡ part_for self.now }
+    {
+        match self {
+            Spread::Side(_, _, part) => part,
+            Spread::Under(_, inner) => inner.part(),
+            Spread::Both(_, _, part) => part,
         }
     }
 
@@ -196,14 +209,14 @@ impl Spread {
             → IfNone result (NoneEnds (spread_menu self.now)) }
     {
         match self {
-            Spread::Side(kept, _) => {
+            Spread::Side(kept, _, _) => {
                 if any_ends(kept.items()) {
                     return Some(kept);
                 }
                 None
             }
             Spread::Under(_, _) => None,
-            Spread::Both(_, _) => None,
+            Spread::Both(_, _, _) => None,
         }
     }
 }
@@ -250,9 +263,9 @@ pub fn push_items(items: &mut Vec<Item>, spread: &Spread) -> Result<(), NoMemory
         → Every (HasItemTerms signature) items.new.items) }
 {
     match spread {
-        Spread::Side(_, own) => push_own(items, own),
+        Spread::Side(_, own, _) => push_own(items, own),
         Spread::Under(_, part) => push_items(items, part),
-        Spread::Both(left, right) => {
+        Spread::Both(left, right, _) => {
             push_items(items, left)?;
             push_items(items, right)
         }

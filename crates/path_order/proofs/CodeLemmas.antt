@@ -9,8 +9,8 @@ use Rattle.std.proofs.lemmas.Bool.Decides.{Decides-eqb}
 use Rattle.lotos_base.specs.Term.{Term as PlainTerm, Terms, variable, node, no_terms, term_then}
 use Rattle.lotos_base.specs.Tests.{term_eq}
 use Rattle.lotos_base.specs.Path.{argument_at}
-use Rattle.termination_theory.specs.Precedence.{Status, Precedence}
-use Rattle.termination_theory.specs.OrderTest.{same_length, is_greater}
+use Rattle.rewriting_theory.specs.Precedence.{Status, Precedence}
+use Rattle.rewriting_theory.specs.OrderTest.{same_length, is_greater}
 use Rattle.sort_terms.specs.ProfiledTerm.{ProfiledTerms, bare, all_bare}
 use Rattle.sort_terms.specs.TermView.{all_profiled, term_of, bare_terms_of}
 use Rattle.sort_terms.specs.declared.operations.Op.{Op}

@@ -2,10 +2,10 @@
 use Rattle.std.proofs.Common.{◌≡◌, ℕ, Bool, true, false, nat_eq, refl, subst, sym}
 use Rattle.std.specs.Prelude.{◌&&◌, ◌||◌, ◌↔◌, IsTrue, nat_lt}
 use Rattle.lotos_base.specs.Term.{Term, variable, node, Terms, no_terms, term_then}
-use Rattle.termination_theory.specs.Precedence.{Precedence}
-use Rattle.termination_theory.specs.OrderTest.{is_greater, node_exceeds, node_exceeds_all}
-use Rattle.termination_theory.specs.PathOrder.{IsGreater}
-use Rattle.termination_theory.proofs.OrderLemmas.{greater_asymmetric, greater_decided}
+use Rattle.rewriting_theory.specs.Precedence.{Precedence}
+use Rattle.rewriting_theory.specs.OrderTest.{is_greater, node_exceeds, node_exceeds_all}
+use Rattle.rewriting_theory.specs.PathOrder.{IsGreater}
+use Rattle.rewriting_theory.proofs.OrderLemmas.{greater_asymmetric, greater_decided}
 use Rattle.path_order.specs.Heads.{below_head, all_terms_below}
 
 both_true : (a b c d : Bool) → (a && b) ≡ true → (a ≡ true → c ≡ true) → (b ≡ true → d ≡ true) → (c && d) ≡ true

@@ -8,7 +8,7 @@ use Rattle.lotos_base.specs.WrittenTerm.{ListedOperation}
 use Rattle.lotos_base.specs.WrittenView.{listed_operation_of}
 use Rattle.lotos_base.specs.declared.written_terms.OrderItem.{OrderItem}
 use Rattle.lotos_base.specs.Signature.{Signature}
-use Rattle.termination_theory.specs.Precedence.{Status}
+use Rattle.rewriting_theory.specs.Precedence.{Status}
 use Rattle.sort_terms.specs.Operations.{operation_of}
 use Rattle.sort_terms.specs.SignatureView.{signature_of}
 use Rattle.sort_terms.specs.declared.signatures.Signature.{Signature as CodeSignature}

@@ -7,11 +7,11 @@ use Rattle.lotos_base.proofs.Members.{at_map}
 use Rattle.lotos_base.specs.Signature.{Signature}
 use Rattle.lotos_base.specs.Equation.{Equation as PlainEquation, Data}
 use Rattle.lotos_base.specs.Equality.{Direction, forward, backward, old_side, new_side}
-use Rattle.termination_theory.specs.Precedence.{Precedence}
-use Rattle.termination_theory.specs.PathOrder.{IsGreater}
-use Rattle.termination_theory.specs.Orientation.{NumberedRule, rules_of, GiveRules, no_more, dropped, turned_next, IsUnorientable, IsFirstUnorientable}
-use Rattle.termination_theory.proofs.OrientationLemmas.{turns, given_joined, given_orientable, rules_of_data}
-use Rattle.termination_theory.proofs.TerminationLemmas.{rewriting_ends, descent_ends}
+use Rattle.rewriting_theory.specs.Precedence.{Precedence}
+use Rattle.rewriting_theory.specs.PathOrder.{IsGreater}
+use Rattle.rewriting_theory.specs.Orientation.{NumberedRule, rules_of, GiveRules, no_more, dropped, turned_next, IsUnorientable, IsFirstUnorientable}
+use Rattle.rewriting_theory.proofs.OrientationLemmas.{turns, given_joined, given_orientable, rules_of_data}
+use Rattle.rewriting_theory.proofs.TerminationLemmas.{rewriting_ends, descent_ends}
 use Rattle.sort_terms.specs.EquationView.{equation_of, IsSortedFlat}
 use Rattle.sort_terms.specs.SignatureView.{signature_of}
 use Rattle.sort_terms.specs.SortedView.{profiled_in, term_in}

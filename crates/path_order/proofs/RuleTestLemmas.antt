@@ -7,13 +7,13 @@ use Rattle.lotos_base.specs.Tests.{term_eq}
 use Rattle.lotos_base.specs.Equation.{Equation}
 use Rattle.lotos_base.specs.Equality.{Direction, forward, backward, old_side, new_side}
 use Rattle.lotos_base.proofs.TestLemmas.{Decides-term_eq}
-use Rattle.termination_theory.specs.HandedOn.{Rule, IsTurned}
-use Rattle.termination_theory.specs.Precedence.{Precedence}
-use Rattle.termination_theory.specs.Orientation.{NumberedRule, TurnsToSmaller, GiveRules, no_more, dropped, turned_next}
-use Rattle.termination_theory.specs.OrderTest.{is_greater}
-use Rattle.termination_theory.specs.PathOrder.{IsGreater}
-use Rattle.termination_theory.proofs.OrderLemmas.{greater_decided}
-use Rattle.termination_theory.proofs.OrientationLemmas.{unlike}
+use Rattle.rewriting_theory.specs.Rule.{Rule, IsTurned}
+use Rattle.rewriting_theory.specs.Precedence.{Precedence}
+use Rattle.rewriting_theory.specs.Orientation.{NumberedRule, TurnsToSmaller, GiveRules, no_more, dropped, turned_next}
+use Rattle.rewriting_theory.specs.OrderTest.{is_greater}
+use Rattle.rewriting_theory.specs.PathOrder.{IsGreater}
+use Rattle.rewriting_theory.proofs.OrderLemmas.{greater_decided}
+use Rattle.rewriting_theory.proofs.OrientationLemmas.{unlike}
 use Rattle.path_order.specs.RuleTest.{is_turned_so, next_gives, gives_rules}
 
 -- the rule is the equation in this direction

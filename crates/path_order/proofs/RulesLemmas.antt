@@ -8,16 +8,16 @@ use Rattle.lotos_base.specs.Signature.{Signature}
 use Rattle.lotos_base.specs.Equation.{Equation, Data, HasOneSort, HasSortedSides}
 use Rattle.lotos_base.specs.Equality.{forward}
 use Rattle.lotos_base.specs.Sorting.{HasSort}
-use Rattle.termination_theory.specs.HandedOn.{Rule as PlainRule, AreWellFormedRules, AreRulesOf, AreSortedRulesOf}
-use Rattle.termination_theory.specs.HandedOn.{Terminates}
-use Rattle.termination_theory.specs.HandedOn.{HaveChosenForms}
-use Rattle.termination_theory.proofs.HandedOn.{chosen_form}
-use Rattle.termination_theory.specs.Precedence.{Precedence}
-use Rattle.termination_theory.specs.Orientation.{AreOriented}
-use Rattle.termination_theory.specs.OrderTest.{is_greater}
-use Rattle.termination_theory.proofs.OrderLemmas.{greater_decided}
-use Rattle.termination_theory.proofs.OrientationLemmas.{oriented_well_formed}
-use Rattle.termination_theory.proofs.TerminationLemmas.{rewriting_ends}
+use Rattle.rewriting_theory.specs.Rule.{Rule as PlainRule, AreWellFormedRules, AreRulesOf, AreSortedRulesOf}
+use Rattle.rewriting_theory.specs.Rewriting.{Terminates}
+use Rattle.rewriting_theory.specs.Measure.{HaveChosenForms}
+use Rattle.rewriting_theory.proofs.PublicLemmas.{chosen_form}
+use Rattle.rewriting_theory.specs.Precedence.{Precedence}
+use Rattle.rewriting_theory.specs.Orientation.{AreOriented}
+use Rattle.rewriting_theory.specs.OrderTest.{is_greater}
+use Rattle.rewriting_theory.proofs.OrderLemmas.{greater_decided}
+use Rattle.rewriting_theory.proofs.OrientationLemmas.{oriented_well_formed}
+use Rattle.rewriting_theory.proofs.TerminationLemmas.{rewriting_ends}
 use Rattle.sort_terms.specs.ProfiledTerm.{bare, head_sort}
 use Rattle.sort_terms.proofs.ProfiledTermLemmas.{fitting_has_sort}
 use Rattle.path_order.specs.declared.rule.Rule.{Rule}

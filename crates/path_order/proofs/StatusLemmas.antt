@@ -8,7 +8,7 @@ use Rattle.lotos_base.specs.WrittenTerm.{ListedOperation}
 use Rattle.lotos_base.specs.WrittenView.{listed_operation_of}
 use Rattle.lotos_base.specs.declared.written_terms.OrderItem.{OrderItem}
 use Rattle.lotos_base.specs.Signature.{Signature}
-use Rattle.termination_theory.specs.Precedence.{Status as PlainStatus, from_left, from_right}
+use Rattle.rewriting_theory.specs.Precedence.{Status as PlainStatus, from_left, from_right}
 use Rattle.path_order.specs.Contains.{contains}
 use Rattle.path_order.specs.Listed.{IsListedBy, AreListedBy}
 use Rattle.path_order.specs.Listing.{AreListedByItems, IsNumberIn}

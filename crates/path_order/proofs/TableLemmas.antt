@@ -7,9 +7,9 @@ use Rattle.std.proofs.Math.Bool.{or-false, or_assoc}
 use Rattle.lotos_base.specs.Term.{Term, variable, node, Terms, no_terms, term_then}
 use Rattle.lotos_base.specs.Path.{argument_at}
 use Rattle.lotos_base.specs.Tests.{term_eq, terms_eq, occurs, occurs_among}
-use Rattle.termination_theory.specs.Precedence.{Status, from_left, from_right, Precedence}
-use Rattle.termination_theory.specs.OrderTest.{is_greater, same_length, some_reaches, list_exceeds, exceeds_all}
-use Rattle.termination_theory.proofs.OrderTestLemmas.{greater_by_parts}
+use Rattle.rewriting_theory.specs.Precedence.{Status, from_left, from_right, Precedence}
+use Rattle.rewriting_theory.specs.OrderTest.{is_greater, same_length, some_reaches, list_exceeds, exceeds_all}
+use Rattle.rewriting_theory.proofs.OrderTestLemmas.{greater_by_parts}
 use Rattle.path_order.specs.Comparison.{compared, all_compared, each_compared, equal_in, greater_in, table_at, part_in, if_there, parts_in, some_reaches_in, exceeds_all_in, equal_there, greater_there, equals_in, exceeds_in, exceeds_last_in, exceeds_from}
 
 equal_of : (p : Precedence) (t u : Term) → equal_in (compared p t u) ≡ term_eq t u

@@ -3,8 +3,8 @@
 use Rattle.std.specs.Prelude.{◌≡◌, ℕ, suc, List, [], ◌∷◌, Option, None, Some, Bool, true, false, zero, ◌&&◌, ◌||◌}
 use Rattle.lotos_base.specs.Term.{Term, variable, node, Terms, no_terms, term_then}
 use Rattle.lotos_base.specs.Tests.{term_eq}
-use Rattle.termination_theory.specs.Precedence.{Status, from_left, from_right, Precedence}
-use Rattle.termination_theory.specs.OrderTest.{is_greater}
+use Rattle.rewriting_theory.specs.Precedence.{Status, from_left, from_right, Precedence}
+use Rattle.rewriting_theory.specs.OrderTest.{is_greater}
 
 mutual
   -- Whether the term is the subterm, whether it is greater, and at an operation the same of its arguments.

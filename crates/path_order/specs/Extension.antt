@@ -7,8 +7,8 @@ use Rattle.lotos_base.specs.Equation.{Equation as PlainEquation}
 use Rattle.sort_terms.specs.ProfiledTerm.{IsOf}
 use Rattle.sort_terms.specs.SortedView.{profiled_in, term_in}
 use Rattle.sort_terms.specs.declared.equations.Equation.{Equation}
-use Rattle.termination_theory.specs.Precedence.{Precedence}
-use Rattle.termination_theory.specs.Orientation.{NumberedRule, GiveRules}
+use Rattle.rewriting_theory.specs.Precedence.{Precedence}
+use Rattle.rewriting_theory.specs.Orientation.{NumberedRule, GiveRules}
 use Rattle.path_order.specs.RuleSides.{AreRulesOver}
 use Rattle.path_order.specs.declared.rule.Rule.{Rule}
 

@@ -2,7 +2,7 @@
 use Rattle.std.specs.Prelude.{ℕ, Bool, true, ◌&&◌, nat_lt}
 use Rattle.lotos_base.specs.Term.{Term, variable, node, Terms, no_terms, term_then}
 use Rattle.lotos_base.specs.Tests.{occurs}
-use Rattle.termination_theory.specs.Precedence.{Precedence}
+use Rattle.rewriting_theory.specs.Precedence.{Precedence}
 
 abbrev mutual
   -- whether the operation is above each one of the second term, whose variables all stand in the first one

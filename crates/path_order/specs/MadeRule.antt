@@ -2,7 +2,7 @@
 use Rattle.std.specs.Prelude.{ℕ}
 use Rattle.lotos_base.specs.Term.{Term}
 use Rattle.sort_terms.specs.ProfiledTerm.{ProfiledTerm}
-use Rattle.termination_theory.specs.Orientation.{NumberedRule}
+use Rattle.rewriting_theory.specs.Orientation.{NumberedRule}
 use Rattle.path_order.specs.RuleSides.{Sides}
 
 -- the rule with these sides, from the equation with this number

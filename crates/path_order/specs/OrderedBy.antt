@@ -2,7 +2,7 @@
 use Rattle.std.specs.Prelude.{◌↔◌, ◌<◌, ℕ, List, length}
 use Rattle.lotos_base.specs.WrittenTerm.{ListedOperation}
 use Rattle.lotos_base.specs.Signature.{Signature}
-use Rattle.termination_theory.specs.Precedence.{Precedence, IsOver}
+use Rattle.rewriting_theory.specs.Precedence.{Precedence, IsOver}
 use Rattle.path_order.specs.Listing.{AreListedByItems, IsAbove, IsFineItem}
 use Rattle.path_order.specs.Statuses.{AreStatusesBy}
 

@@ -1,8 +1,8 @@
 -- What a fault of orientation says.
 use Rattle.std.specs.Prelude.{◌≡◌, ℕ, List}
 use Rattle.lotos_base.specs.Equation.{Equation}
-use Rattle.termination_theory.specs.Precedence.{Precedence}
-use Rattle.termination_theory.specs.Orientation.{IsUnorientable, IsFirstUnorientable}
+use Rattle.rewriting_theory.specs.Precedence.{Precedence}
+use Rattle.rewriting_theory.specs.Orientation.{IsUnorientable, IsFirstUnorientable}
 use Rattle.path_order.specs.declared.orient_fault.OrientFault.{OrientFault}
 use Rattle.path_order.specs.declared.orient_fault.OrientFault.TheVariants.{Unorientable, NoMemory}
 

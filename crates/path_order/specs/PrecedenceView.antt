@@ -1,7 +1,7 @@
 -- The precedence that a precedence of the code stands for.
 use Rattle.std.specs.Prelude.{ℕ, List, slice_index}
 use Rattle.std.proofs.Common.{get_or}
-use Rattle.termination_theory.specs.Precedence.{Status as PlainStatus, Precedence as PlainPrecedence, from_left, from_right}
+use Rattle.rewriting_theory.specs.Precedence.{Status as PlainStatus, Precedence as PlainPrecedence, from_left, from_right}
 use Rattle.path_order.specs.declared.status.Status.{Status}
 use Rattle.path_order.specs.declared.status.Status.TheVariants.{Left, Right}
 use Rattle.path_order.specs.declared.precedence.Precedence.{Precedence}

@@ -1,9 +1,9 @@
 -- Rules by the operation at the head of their left side, and whether each rule is oriented, by tests that compute.
 use Rattle.std.specs.Prelude.{ℕ, zero, suc, Bool, true, false, ◌&&◌, nat_eq, List, [], ◌∷◌, ◌++◌, if◌then◌else◌}
 use Rattle.lotos_base.specs.Term.{Term, variable, node}
-use Rattle.termination_theory.specs.HandedOn.{Rule}
-use Rattle.termination_theory.specs.Precedence.{Precedence}
-use Rattle.termination_theory.specs.OrderTest.{is_greater}
+use Rattle.rewriting_theory.specs.Rule.{Rule}
+use Rattle.rewriting_theory.specs.Precedence.{Precedence}
+use Rattle.rewriting_theory.specs.OrderTest.{is_greater}
 
 -- whether the operation with this number is at the head of the term
 abbrev pub has_head : ℕ → Term → Bool

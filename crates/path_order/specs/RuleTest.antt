@@ -2,10 +2,10 @@
 use Rattle.std.specs.Prelude.{◌≡◌, ◌↔◌, ℕ, suc, Bool, true, false, ◌&&◌, ◌||◌, nat_eq, List, [], ◌∷◌, if◌then◌else◌}
 use Rattle.lotos_base.specs.Tests.{term_eq}
 use Rattle.lotos_base.specs.Equation.{Equation}
-use Rattle.termination_theory.specs.HandedOn.{Rule}
-use Rattle.termination_theory.specs.Precedence.{Precedence}
-use Rattle.termination_theory.specs.Orientation.{NumberedRule, GiveRules}
-use Rattle.termination_theory.specs.OrderTest.{is_greater}
+use Rattle.rewriting_theory.specs.Rule.{Rule}
+use Rattle.rewriting_theory.specs.Precedence.{Precedence}
+use Rattle.rewriting_theory.specs.Orientation.{NumberedRule, GiveRules}
+use Rattle.rewriting_theory.specs.OrderTest.{is_greater}
 
 -- whether the rule is the equation in one of the two directions, and its left side is greater
 abbrev pub is_turned_so : Precedence → Equation → Rule → Bool

@@ -1,8 +1,8 @@
 -- The rules that rules of the code stand for.
 use Rattle.std.specs.Prelude.{List, map}
-use Rattle.termination_theory.specs.HandedOn.{Rule as PlainRule}
+use Rattle.rewriting_theory.specs.Rule.{Rule as PlainRule}
 use Rattle.sort_terms.specs.SortedView.{term_in}
-use Rattle.termination_theory.specs.Orientation.{NumberedRule, rules_of}
+use Rattle.rewriting_theory.specs.Orientation.{NumberedRule, rules_of}
 use Rattle.path_order.specs.declared.rule.Rule.{Rule}
 
 -- the rule without its number

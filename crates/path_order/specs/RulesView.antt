@@ -1,10 +1,10 @@
 -- What rules of the code stand for.
 use Rattle.std.specs.Prelude.{List}
 use Rattle.lotos_base.specs.Signature.{Signature}
-use Rattle.termination_theory.specs.HandedOn.{Rule as PlainRule}
+use Rattle.rewriting_theory.specs.Rule.{Rule as PlainRule}
 use Rattle.sort_terms.specs.SignatureView.{signature_of}
-use Rattle.termination_theory.specs.Orientation.{NumberedRule, rules_of}
-use Rattle.termination_theory.specs.Precedence.{Precedence}
+use Rattle.rewriting_theory.specs.Orientation.{NumberedRule, rules_of}
+use Rattle.rewriting_theory.specs.Precedence.{Precedence}
 use Rattle.path_order.specs.PrecedenceView.{precedence_of}
 use Rattle.path_order.specs.RuleView.{numbered_rules}
 use Rattle.path_order.specs.declared.rules.Rules.{Rules}

@@ -4,7 +4,7 @@ use Rattle.std.specs.Str.{bytes_eq}
 use Rattle.lotos_base.specs.WrittenTerm.{PlacedName, ListedOperation}
 use Rattle.lotos_base.specs.Names.{folded}
 use Rattle.lotos_base.specs.Signature.{Signature}
-use Rattle.termination_theory.specs.Precedence.{Status, from_left, from_right}
+use Rattle.rewriting_theory.specs.Precedence.{Status, from_left, from_right}
 use Rattle.path_order.specs.Listed.{IsListedBy}
 
 -- the status with this name, in any letter case

@@ -1,8 +1,8 @@
 -- What a turn of an equation says of its sides.
 use Rattle.std.specs.Prelude.{◌≡◌, ◌≢◌}
 use Rattle.lotos_base.specs.Term.{Term}
-use Rattle.termination_theory.specs.Precedence.{Precedence}
-use Rattle.termination_theory.specs.PathOrder.{IsGreater}
+use Rattle.rewriting_theory.specs.Precedence.{Precedence}
+use Rattle.rewriting_theory.specs.PathOrder.{IsGreater}
 use Rattle.path_order.specs.declared.turning.Turn.{Turn}
 use Rattle.path_order.specs.declared.turning.Turn.TheVariants.{Identical, Forward, Backward, Neither}
 

@@ -17,8 +17,8 @@ ghost use Rattle.sort_terms.specs.TermView.{term_of, bare_terms_of};
 ghost use Rattle.std.specs.Prelude.{◌≡◌, ◌↔◌, ◌&&◌, ◌||◌, IfOk, IsTrue, map, nat_eq, nat_lt};
 ghost use Rattle.lotos_base.specs.Term.{node, variable};
 ghost use Rattle.lotos_base.specs.Tests.{term_eq};
-ghost use Rattle.termination_theory.specs.OrderTest.{same_length};
-ghost use Rattle.termination_theory.specs.PathOrder.{IsGreater};
+ghost use Rattle.rewriting_theory.specs.OrderTest.{same_length};
+ghost use Rattle.rewriting_theory.specs.PathOrder.{IsGreater};
 
 use crate::compared::{Compared, equals, exceeds, exceeds_all, parts, some_reaches};
 use crate::heads::exceeds_by_heads;

@@ -4,7 +4,7 @@ ghost use Rattle.path_order.specs.Heads.{all_terms_below, below_head};
 ghost use Rattle.path_order.specs.PrecedenceView.{precedence_of};
 ghost use Rattle.sort_terms.specs.TermView.{term_of, bare_terms_of};
 ghost use Rattle.std.specs.Prelude.{◌≡◌, IsTrue};
-ghost use Rattle.termination_theory.specs.PathOrder.{IsGreater};
+ghost use Rattle.rewriting_theory.specs.PathOrder.{IsGreater};
 
 use crate::comparing::is_over;
 use crate::precedence::Precedence;

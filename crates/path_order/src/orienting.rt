@@ -15,7 +15,7 @@ ghost use Rattle.path_order.specs.RulesView.{
 ghost use Rattle.sort_terms.specs.EquationView.{IsSortedFlat, data_of, equation_of};
 ghost use Rattle.sort_terms.specs.SignatureView.{signature_of};
 ghost use Rattle.std.specs.Prelude.{◌≡◌, IfOk, MatchResult, map};
-ghost use Rattle.termination_theory.specs.Orientation.{GiveRules, IsOrientation};
+ghost use Rattle.rewriting_theory.specs.Orientation.{GiveRules, IsOrientation};
 
 use crate::orient_fault::OrientFault;
 use crate::precedence::Precedence;

@@ -1,5 +1,5 @@
 -- The texts of what the code keeps.
-use Rattle.std.specs.Prelude.{ℕ, List, [], map, Bool, false, nat_eq, Option, None, Some}
+use Rattle.std.specs.Prelude.{ℕ, List, map, Bool, false, nat_eq}
 use Rattle.lotos_base.specs.Name.{spelling}
 use Rattle.lotos_base.specs.declared.names.Name.{Name}
 use Rattle.lotos_base.specs.Signature.{Form, prefix_form, infix_form}
@@ -20,6 +20,7 @@ use Rattle.event_offers.specs.declared.drafts.Entry.{Entry}
 use Rattle.event_offers.specs.declared.menus.Menu.{Menu}
 use Rattle.printed_texts.specs.TermText.{Phrase, phrase_of, phrases_of, prefix_phrase, application_phrase, term_text}
 use Rattle.printed_texts.specs.MenuText.{label_text, entry_text, menu_line_text, lines_text, menu_text, condition_text, entry_term_text}
+use Rattle.event_offers.specs.Parts.{menu_entries}
 
 -- a term with these names of variables
 abbrev pub phrase_in : Signature → List Variable → Term → Phrase
@@ -66,12 +67,8 @@ written_entry signature gates entry = entry_text (signature_of signature) (map s
 abbrev pub written_line : Signature → List Name → ℕ → Entry → List ℕ
 written_line signature gates number entry = menu_line_text (signature_of signature) (map spelling gates) number (plain_entry entry)
 
-abbrev pub line_at : Signature → List Name → ℕ → Option Entry → List ℕ
-line_at signature gates number None = []
-line_at signature gates number (Some entry) = written_line signature gates number entry
-
 abbrev pub written_lines : Signature → List Name → ℕ → List Entry → List ℕ
 written_lines signature gates number entries = lines_text (signature_of signature) (map spelling gates) number (map plain_entry entries)
 
 abbrev pub written_menu : Signature → List Name → Menu → List ℕ
-written_menu signature gates menu = menu_text (signature_of signature) (map spelling gates) (map plain_entry menu.entries.items)
+written_menu signature gates menu = menu_text (signature_of signature) (map spelling gates) (map plain_entry (menu_entries menu))

@@ -1,10 +1,11 @@
 //! The texts of entries and menus.
 
+ghost use Rattle.event_offers.specs.EntryTrees.{are_counted, entries_among};
 ghost use Rattle.event_offers.specs.HandedOn.{terms_of};
 ghost use Rattle.event_offers.specs.OfferView.{conditions_of};
+ghost use Rattle.event_offers.specs.Parts.{menu_entries};
 ghost use Rattle.printed_texts.specs.MenuText.{for_text, if_text, sorted_text};
 ghost use Rattle.printed_texts.specs.TextView.{
-  line_at,
   written_condition,
   written_entry,
   written_line,
@@ -12,13 +13,13 @@ ghost use Rattle.printed_texts.specs.TextView.{
   written_menu,
 };
 ghost use Rattle.sort_terms.specs.SignatureView.{signature_of};
-ghost use Rattle.std.specs.Prelude.{◌≡◌, ◌++◌, OnOk, slice_get};
+ghost use Rattle.std.specs.Prelude.{◌≡◌, ◌++◌, ◌<◌, ◌+◌, ◌^◌, OnOk, length, true};
 
 use crate::brackets::{push_number, push_separator, push_text};
 use crate::labels::{push_label, push_value};
 use crate::operations::push_sort;
 use crate::terms::push_numbered;
-use event_offers::{Entry, Menu};
+use event_offers::{Entry, EntryTree, Menu};
 use lotos_base::{Name, NoMemory};
 use sort_terms::{Signature, Sorted};
 
@@ -123,21 +124,44 @@ fn push_line(
     push_text(into, b"\n")
 }
 
-// Appends the line of the entry at this position, with this number.
-fn push_line_at(
+// Appends a line for each entry of the list, behind so many lines of entries before them.
+fn push_list(
     signature: &Signature,
     gates: &[Name],
-    menu: &Menu,
-    position: usize,
-    number: usize,
+    entries: &Vec<Entry>,
+    before: usize,
     into: &mut Vec<u8>,
 ) -> Result<(), NoMemory>
+    requires room { before + length entries.now.items < 2 ^ 64 }
     ensures { OnOk result (into.new.items ≡ into.old.items
-        ++ line_at signature.now gates.now number (slice_get menu.now.entries.items position)) }
+        ++ written_lines signature.now gates.now (before + 1) entries.now.items) }
 {
-    match menu.entry(position) {
-        None => Ok(()),
-        Some(entry) => push_line(signature, gates, number, entry, into),
+    for position in 0..entries.len() {
+        let number = before + position + 1;
+        push_line(signature, gates, number, &entries[position], into)?;
+    }
+    Ok(())
+}
+
+// Appends a line for each entry of the tree, behind so many lines of entries before them.
+fn push_tree(
+    signature: &Signature,
+    gates: &[Name],
+    tree: &EntryTree,
+    before: usize,
+    into: &mut Vec<u8>,
+) -> Result<(), NoMemory>
+    requires counted { are_counted tree.now ≡ true }
+    requires room { before + length (entries_among tree.now) < 2 ^ 64 }
+    ensures { OnOk result (into.new.items ≡ into.old.items
+        ++ written_lines signature.now gates.now (before + 1) (entries_among tree.now)) }
+{
+    match tree {
+        EntryTree::Leaf(entries) => push_list(signature, gates, entries, before, into),
+        EntryTree::Joined(_, first, second) => {
+            push_tree(signature, gates, first, before, into)?;
+            push_tree(signature, gates, second, before + first.len(), into)
+        }
     }
 }
 
@@ -148,13 +172,14 @@ fn push_lines(
     menu: &Menu,
     into: &mut Vec<u8>,
 ) -> Result<(), NoMemory>
+    requires room { length (menu_entries menu.now) < 2 ^ 64 }
     ensures { OnOk result (into.new.items
-        ≡ into.old.items ++ written_lines signature.now gates.now 1 menu.now.entries.items) }
+        ≡ into.old.items ++ written_lines signature.now gates.now 1 (menu_entries menu.now)) }
 {
-    for position in 0..menu.len() {
-        push_line_at(signature, gates, menu, position, position + 1, into)?;
+    match menu {
+        Menu::Own(entries) => push_list(signature, gates, entries, 0, into),
+        Menu::Shared(part) => push_tree(signature, gates, part.entries(), 0, into),
     }
-    Ok(())
 }
 
 /// Appends the text of a menu.

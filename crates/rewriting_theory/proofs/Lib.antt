@@ -20,3 +20,17 @@ pub mod UniqueLemmas
 pub mod DecideLemmas
 pub mod NumberLemmas
 pub mod ExistLemmas
+pub mod Accessible
+pub mod Closure
+pub mod StrictLemmas
+pub mod OrderTestLemmas
+pub mod OrderPlaceLemmas
+pub mod OrderLemmas
+pub mod Maximum
+pub mod TerminationLemmas
+pub mod OrientationLemmas
+pub mod CaseLemmas
+pub mod ChosenCanonLemmas
+pub mod CaseTests
+pub mod OrientationCaseLemmas
+pub mod AdditionLemmas

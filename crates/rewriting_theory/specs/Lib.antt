@@ -17,3 +17,15 @@ pub mod PairList
 pub mod Places
 pub mod PairListLaws
 pub mod Measure
+pub mod Precedence
+pub mod PathOrder
+pub mod OrderFamily
+pub mod OrderTest
+pub mod OrderLaws
+pub mod Orientation
+pub mod OrientationLaws
+pub mod Termination
+pub mod ChosenCanonLaws
+pub mod OrderCases
+pub mod OrientationCases
+pub mod CanonCases

@@ -5,9 +5,9 @@ use Rattle.lotos_base.specs.Term.{Term}
 use Rattle.rewriting_theory.specs.Rule.{Rule, AreWellFormedRules}
 use Rattle.rewriting_theory.specs.ChosenForm.{Chooses}
 use Rattle.rewriting_theory.proofs.ChosenLemmas.{chosen_one}
-use Rattle.termination_theory.specs.Precedence.{Precedence}
-use Rattle.termination_theory.specs.Orientation.{NumberedRule, rules_of}
-use Rattle.termination_theory.proofs.OrientationLemmas.{orientation_well_formed}
+use Rattle.rewriting_theory.specs.Precedence.{Precedence}
+use Rattle.rewriting_theory.specs.Orientation.{NumberedRule, rules_of}
+use Rattle.rewriting_theory.proofs.OrientationLemmas.{orientation_well_formed}
 use Rattle.type_definitions.specs.DeclaredTypes.{types_of}
 use Rattle.behaviour_semantics.specs.Replacement.{with_values, binding_of}
 use Rattle.flat_sentences.specs.HandedOn.{SessionBasis, Progress, IsSituation}

@@ -5,8 +5,8 @@ use Rattle.lotos_base.specs.Signature.{Signature, Operation}
 use Rattle.lotos_base.specs.Equation.{Equation, Data}
 use Rattle.lotos_base.specs.Equality.{Direction, forward, backward}
 use Rattle.rewriting_theory.specs.Rule.{Rule, IsTurned}
-use Rattle.termination_theory.specs.Precedence.{Precedence}
-use Rattle.termination_theory.specs.Orientation.{NumberedRule, GiveRules, no_more, dropped, turned_next}
+use Rattle.rewriting_theory.specs.Precedence.{Precedence}
+use Rattle.rewriting_theory.specs.Orientation.{NumberedRule, GiveRules, no_more, dropped, turned_next}
 use Rattle.sort_terms.specs.Reading.{IsSortNamed}
 use Rattle.path_order.specs.Listed.{AreSortsNamed, HasProfile, IsListedBy, AreListedBy}
 use Rattle.path_order.specs.Listing.{AreListedByItems, none_listed, listed_then, IsTwice, IsFineItem}

@@ -11,8 +11,8 @@ use Rattle.behaviour_tree.specs.Over.{IsSpecOver}
 use Rattle.behaviour_tree.specs.declared.definitions.Spec.{Spec}
 use Rattle.certificate_theory.specs.SameData.{AreSameData}
 use Rattle.flat_sentences.specs.HandedOn.{AllAgree, AreSameSpecifications, all_disagreements}
-use Rattle.termination_theory.specs.Precedence.{Precedence}
-use Rattle.termination_theory.specs.Orientation.{NumberedRule}
+use Rattle.rewriting_theory.specs.Precedence.{Precedence}
+use Rattle.rewriting_theory.specs.Orientation.{NumberedRule}
 use Rattle.path_order.specs.OrderedBy.{IsPrecedenceBy}
 use Rattle.lotos_top.specs.HandedOn.{IsOpenedBy, Refusal, Start, AreStartValues, IsStartFault}
 

@@ -19,7 +19,7 @@ use Rattle.behaviour_semantics.proofs.InstanceLemmas.{every_at}
 use Rattle.behaviour_tree.specs.BehaviourTerms.{profiles_of}
 use Rattle.behaviour_tree.specs.BehaviourView.{terms_of}
 use Rattle.behaviour_tree.specs.Over.{AreTermsOf}
-use Rattle.menu_builder.specs.HandedOn.{plain_entry, unmet_among, IsEntryOf, IsEntryOver, Entry, Menu}
+use Rattle.menu_builder.specs.HandedOn.{plain_entry, unmet_among, IsEntryOf, IsEntryOver, Entry, Menu, menu_entries}
 use Rattle.menu_builder.specs.Menus.{entries_in}
 use Rattle.sort_terms.specs.ProfiledTerm.{head_sort, IsOf}
 use Rattle.sort_terms.specs.SortedView.{profiled_in, term_in}
@@ -41,16 +41,16 @@ pub entry_there : (menu : Menu) (number : ℕ) (entry : Entry) → IsEntryAt men
     → entry_numbered (entries_in menu) number ≡ Some (plain_entry entry)
 entry_there menu number entry h =
     subst (λ (n : ℕ). entry_numbered (entries_in menu) n ≡ Some (plain_entry entry)) (sym h.numbered)
-    (at_map plain_entry menu.entries.items h.position entry h.found)
+    (at_map plain_entry (menu_entries menu) h.position entry h.found)
 
 -- a number without an entry is refused
-refused : (menu : Menu) (number count given : ℕ) → count ≡ length menu.entries.items → entry_numbered (entries_in menu) number ≡ None
+refused : (menu : Menu) (number count given : ℕ) → count ≡ length (menu_entries menu) → entry_numbered (entries_in menu) number ≡ None
     → number_refusal (entries_in menu) number given ≡ Some (no_entry number count)
 refused menu number count given counted none =
     ap (λ (it : Option PlainEntry). count_refusal number (length (entries_in menu)) it given) none
-    ∙ ap (λ (it : ℕ). Some (no_entry number it)) (length-map menu.entries.items plain_entry ∙ sym counted)
+    ∙ ap (λ (it : ℕ). Some (no_entry number it)) (length-map (menu_entries menu) plain_entry ∙ sym counted)
 
-pub refused_at_zero : (menu : Menu) (number count given : ℕ) → count ≡ length menu.entries.items → number ≡ 0
+pub refused_at_zero : (menu : Menu) (number count given : ℕ) → count ≡ length (menu_entries menu) → number ≡ 0
     → number_refusal (entries_in menu) number given ≡ Some (no_entry number count)
 refused_at_zero menu number count given counted e =
     refused menu number count given counted (ap (entry_numbered (entries_in menu)) e)
@@ -58,20 +58,20 @@ refused_at_zero menu number count given counted e =
 before_number : (number : ℕ) → 0 < number → number ≡ suc (number - 1)
 before_number number h = omega (arith, h)
 
-pub refused_without : (menu : Menu) (number count given : ℕ) → count ≡ length menu.entries.items → 0 < number
-    → slice_get menu.entries.items (number - 1) ≡ None
+pub refused_without : (menu : Menu) (number count given : ℕ) → count ≡ length (menu_entries menu) → 0 < number
+    → slice_get (menu_entries menu) (number - 1) ≡ None
     → number_refusal (entries_in menu) number given ≡ Some (no_entry number count)
 refused_without menu number count given counted some none =
     refused menu number count given counted (ap (entry_numbered (entries_in menu)) (before_number number some)
-    ∙ past_map plain_entry menu.entries.items (number - 1) none)
+    ∙ past_map plain_entry (menu_entries menu) (number - 1) none)
 
-pub refused_past : (menu : Menu) (number count given : ℕ) → count ≡ length menu.entries.items → count < number
+pub refused_past : (menu : Menu) (number count given : ℕ) → count ≡ length (menu_entries menu) → count < number
     → number_refusal (entries_in menu) number given ≡ Some (no_entry number count)
 refused_past menu number count given counted past =
     refused_without menu number count given counted (omega (arith, past))
-    (slice_get_past menu.entries.items (number - 1) (omega (arith, counted, past)))
+    (slice_get_past (menu_entries menu) (number - 1) (omega (arith, counted, past)))
 
-pub found_at : (menu : Menu) (number : ℕ) (entry : Entry) → 0 < number → slice_get menu.entries.items (number - 1) ≡ Some entry
+pub found_at : (menu : Menu) (number : ℕ) (entry : Entry) → 0 < number → slice_get (menu_entries menu) (number - 1) ≡ Some entry
     → IsEntryAt menu number entry
 found_at menu number entry some found =
     record { position = number - 1; numbered = before_number number some; found = found }
@@ -163,7 +163,7 @@ menu_kept signature (entry ∷ entries) over = (over.0.entry_of, menu_kept signa
 
 pub entry_over : (signature : Signature) (menu : Menu) (number : ℕ) (entry : Entry) → IsKeptMenu signature menu
     → IsEntryAt menu number entry → IsEntryOf signature entry
-entry_over signature menu number entry kept h = every_at (IsEntryOf signature) menu.entries.items h.position entry kept h.found
+entry_over signature menu number entry kept h = every_at (IsEntryOf signature) (menu_entries menu) h.position entry kept h.found
 
 -- values of their sorts, which meet an entry with the conditions
 pub given_sorts : (signature : Signature) (sorts : List ℕ) (values : List Sorted) → AreGiven signature values

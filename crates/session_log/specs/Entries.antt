@@ -11,7 +11,7 @@ use Rattle.behaviour_tree.specs.BehaviourView.{terms_of}
 use Rattle.behaviour_tree.specs.MoveView.{derivation_of}
 use Rattle.behaviour_tree.specs.Over.{AreTermsOf}
 use Rattle.behaviour_tree.specs.declared.moves.Derivation.{Derivation}
-use Rattle.menu_builder.specs.HandedOn.{canonical_derivation, plain_entry, Entry, Menu}
+use Rattle.menu_builder.specs.HandedOn.{canonical_derivation, plain_entry, Entry, Menu, menu_entries}
 use Rattle.sort_terms.specs.SortedView.{term_in}
 use Rattle.sort_terms.specs.declared.sorted.Sorted.{Sorted}
 use Rattle.session_histories.specs.Refusal.{StepRefusal, value_sort}
@@ -20,7 +20,7 @@ use Rattle.session_histories.specs.Refusal.{StepRefusal, value_sort}
 pub record IsEntryAt (menu : Menu) (number : ℕ) (entry : Entry) : Type 0 where
   pub position : ℕ
   pub numbered : number ≡ suc position
-  pub found : slice_get menu.entries.items position ≡ Some entry
+  pub found : slice_get (menu_entries menu) position ≡ Some entry
 
 -- The values are ground terms of the signature.
 pub record AreGiven (signature : Signature) (values : List Sorted) : Type 0 where

@@ -8,7 +8,7 @@ pub use Rattle.behaviour_tree.specs.Over.{AreTermsOf}
 pub use Rattle.behaviour_tree.specs.StateView.{state_of}
 pub use Rattle.behaviour_tree.specs.declared.definitions.Spec.{Spec}
 pub use Rattle.behaviour_tree.specs.declared.states.State.{State}
-pub use Rattle.menu_builder.specs.HandedOn.{KeepsData, plain_entry, IsEntryOf, Menu, AreRanksOf}
+pub use Rattle.menu_builder.specs.HandedOn.{KeepsData, menu_entries, plain_entry, IsEntryOf, Menu, AreRanksOf}
 pub use Rattle.menu_builder.specs.Menus.{entries_in}
 pub use Rattle.menu_builder.specs.declared.makers.FreshMenus.{FreshMenus}
 pub use Rattle.session_histories.specs.Lawful.{HasStepped, IsSituation, LeadTo, IsLawful, IsLawfulFrom}

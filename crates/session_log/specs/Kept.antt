@@ -8,7 +8,7 @@ use Rattle.behaviour_tree.specs.Closed.{IsClosedNode}
 use Rattle.behaviour_tree.specs.Over.{AreTermsOf, IsSpecOver, IsStateOf}
 use Rattle.behaviour_tree.specs.declared.definitions.Spec.{Spec}
 use Rattle.behaviour_tree.specs.declared.states.State.{State}
-use Rattle.menu_builder.specs.HandedOn.{label_profiles, IsEntryOf, Menu, AreRanksOf, Ranks}
+use Rattle.menu_builder.specs.HandedOn.{label_profiles, IsEntryOf, Menu, AreRanksOf, Ranks, menu_entries}
 use Rattle.session_histories.specs.Lawful.{IsLawful}
 use Rattle.session_log.specs.CourseView.{basis_over, progress_of}
 use Rattle.session_log.specs.declared.courses.Past.{Past}
@@ -22,7 +22,7 @@ pub record IsKeptState (signature : Signature) (spec : Spec) (state : State) : T
 
 -- The entries of the menu are in order over the signature.
 abbrev pub IsKeptMenu : Signature → Menu → Type 0
-IsKeptMenu signature menu = Every (IsEntryOf signature) menu.entries.items
+IsKeptMenu signature menu = Every (IsEntryOf signature) (menu_entries menu)
 
 -- So are the state and the menu before a step, and the terms of its values and of its label are of the signature.
 pub record IsKeptPast (signature : Signature) (spec : Spec) (past : Past) : Type 0 where

@@ -10,6 +10,7 @@ pub mod labels;
 pub mod menu_laws;
 pub mod rules;
 
+pub use event_offers::MenuPart;
 pub use items::{Item, entries_of, items_of};
 pub use joins::{beside, either};
 pub use menu_builder::menus::node_entries;

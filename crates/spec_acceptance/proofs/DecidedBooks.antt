@@ -7,9 +7,9 @@ use Rattle.lotos_base.specs.Term.{Term}
 use Rattle.rewriting_theory.specs.Rewriting.{AreConfluent}
 use Rattle.rewriting_theory.specs.ChosenForm.{Chosen, Chooses}
 use Rattle.rewriting_theory.proofs.ChosenLemmas.{chosen_one}
-use Rattle.termination_theory.specs.Precedence.{Precedence}
-use Rattle.termination_theory.specs.Orientation.{NumberedRule, rules_of, IsOrientation, IsFirstUnorientable}
-use Rattle.termination_theory.proofs.OrientationLemmas.{orientation_well_formed}
+use Rattle.rewriting_theory.specs.Precedence.{Precedence}
+use Rattle.rewriting_theory.specs.Orientation.{NumberedRule, rules_of, IsOrientation, IsFirstUnorientable}
+use Rattle.rewriting_theory.proofs.OrientationLemmas.{orientation_well_formed}
 use Rattle.path_order.specs.Listing.{IsFirstWrong, listed_name, listed_status}
 use Rattle.path_order.specs.OrderedBy.{IsPrecedenceBy}
 use Rattle.refusal_lines.specs.HandedOn.{AreUnjoinedBy, IsOpenedBy}

@@ -6,7 +6,7 @@ use Rattle.lotos_base.specs.WrittenTerm.{PlacedName, ListedOperation}
 use Rattle.lotos_base.specs.Equation.{Place}
 use Rattle.lotos_base.specs.Signature.{Signature}
 use Rattle.rewriting_theory.proofs.PairListLemmas.{neither_less}
-use Rattle.termination_theory.specs.Precedence.{Status, from_left, from_right, Precedence, IsOver}
+use Rattle.rewriting_theory.specs.Precedence.{Status, from_left, from_right, Precedence, IsOver}
 use Rattle.path_order.proofs.OneListing.{listed_by_once}
 use Rattle.path_order.specs.Listing.{AreListedByItems, none_listed, listed_then, IsAbove, IsUnknown, IsTwice, IsBadAlone, IsFineItem, IsFirstWrong, listed_name, listed_status}
 use Rattle.path_order.specs.OrderedBy.{IsPrecedenceBy}

@@ -11,7 +11,7 @@ use Rattle.rewriting_theory.specs.PairList.{PairPlace, place_of_critical_pair, A
 use Rattle.rewriting_theory.proofs.PairListLemmas.{first_unjoined_once}
 use Rattle.rewriting_theory.proofs.PlaceListLemmas.{same_places}
 use Rattle.rewriting_theory.proofs.UniqueLemmas.{pairs_unique}
-use Rattle.termination_theory.specs.Orientation.{NumberedRule, rules_of}
+use Rattle.rewriting_theory.specs.Orientation.{NumberedRule, rules_of}
 use Rattle.refusal_lines.specs.HandedOn.{equation_at, ArePeaksOf, AreUnjoinedBy}
 
 -- ---- The list of the critical pairs is one

@@ -7,12 +7,12 @@ use Rattle.lotos_base.specs.Sorting.{HasSort, HaveSorts}
 use Rattle.lotos_base.specs.Equation.{Equation, Data, IsEquationOver, IsWellFormedData}
 use Rattle.lotos_base.specs.Equality.{Direction, forward, backward, old_side, new_side}
 use Rattle.rewriting_theory.specs.Rule.{Rule}
-use Rattle.termination_theory.specs.Precedence.{Status, Precedence, IsOver}
-use Rattle.termination_theory.specs.PathOrder.{IsGreater}
-use Rattle.termination_theory.specs.OrderFamily.{Exceeds, by_occurrence, by_argument, by_operation, by_comparison, SomeReaches, is_first, first_exceeds, among_rest, ExceedsAll, than_none, than_first, ListExceeds, left_here, left_later, right_here, right_later}
-use Rattle.termination_theory.specs.Orientation.{NumberedRule, TurnsToSmaller, GiveRules, no_more, dropped, turned_next, IsOrientation, IsUnorientable, IsFirstUnorientable}
-use Rattle.termination_theory.proofs.PlaceLemmas.{exceeds_greater, greater_exceeds}
-use Rattle.termination_theory.proofs.OrientationLemmas.{given_once, given_orientable, first_once}
+use Rattle.rewriting_theory.specs.Precedence.{Status, Precedence, IsOver}
+use Rattle.rewriting_theory.specs.PathOrder.{IsGreater}
+use Rattle.rewriting_theory.specs.OrderFamily.{Exceeds, by_occurrence, by_argument, by_operation, by_comparison, SomeReaches, is_first, first_exceeds, among_rest, ExceedsAll, than_none, than_first, ListExceeds, left_here, left_later, right_here, right_later}
+use Rattle.rewriting_theory.specs.Orientation.{NumberedRule, TurnsToSmaller, GiveRules, no_more, dropped, turned_next, IsOrientation, IsUnorientable, IsFirstUnorientable}
+use Rattle.rewriting_theory.proofs.OrderPlaceLemmas.{exceeds_greater, greater_exceeds}
+use Rattle.rewriting_theory.proofs.OrientationLemmas.{given_once, given_orientable, first_once}
 
 -- ---- Terms whose operations have small numbers
 

@@ -5,8 +5,8 @@ use Rattle.lotos_base.specs.WrittenTerm.{ListedOperation}
 use Rattle.lotos_base.specs.Equation.{Place, Data}
 use Rattle.lotos_base.specs.Term.{Term}
 use Rattle.behaviour_semantics.specs.Behaviour.{Specification}
-use Rattle.termination_theory.specs.Precedence.{Precedence}
-use Rattle.termination_theory.specs.Orientation.{NumberedRule, IsOrientation, IsFirstUnorientable}
+use Rattle.rewriting_theory.specs.Precedence.{Precedence}
+use Rattle.rewriting_theory.specs.Orientation.{NumberedRule, IsOrientation, IsFirstUnorientable}
 use Rattle.path_order.specs.Listing.{IsUnknown, IsTwice, IsBadAlone, IsFirstWrong, listed_name, listed_status}
 use Rattle.path_order.specs.OrderedBy.{IsPrecedenceBy}
 use Rattle.refusal_lines.specs.HandedOn.{AreUnjoinedBy, IsOpenedBy, Gathered}

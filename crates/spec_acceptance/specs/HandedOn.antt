@@ -15,6 +15,6 @@ pub use Rattle.refusal_lines.specs.LineView.{names_of}
 pub use Rattle.refusal_lines.specs.RefusalText.{refusal_text}
 pub use Rattle.refusal_lines.specs.TextNames.{TextNames, place_text}
 pub use Rattle.rewriting_theory.specs.ChosenForm.{Chooses}
-pub use Rattle.termination_theory.specs.Orientation.{rules_of, NumberedRule}
-pub use Rattle.termination_theory.specs.Precedence.{Precedence}
+pub use Rattle.rewriting_theory.specs.Orientation.{rules_of, NumberedRule}
+pub use Rattle.rewriting_theory.specs.Precedence.{Precedence}
 pub use Rattle.type_definitions.specs.Requirements.{AreRequirements}

@@ -2,3 +2,5 @@
 pub use Rattle.behaviour_instances.specs.InstanceTerms.{instance_profiles}
 pub use Rattle.behaviour_instances.specs.Suited.{SuitsWhere}
 pub use Rattle.draft_parts.specs.HandedOn.{KeepsData, label_profiles}
+pub use Rattle.term_match.specs.ProfiledInstance.{profiled_binding}
+pub use Rattle.term_match.specs.SubstView.{profiled_pairs}

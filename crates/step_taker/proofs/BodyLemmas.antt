@@ -31,9 +31,7 @@ use Rattle.behaviour_tree.specs.declared.definitions.Process.{Process as Called}
 use Rattle.sort_terms.specs.ProfiledTerm.{IsOf}
 use Rattle.sort_terms.specs.SortedView.{profiled_in, term_in}
 use Rattle.sort_terms.specs.declared.sorted.Sorted.{Sorted}
-use Rattle.term_match.specs.ProfiledInstance.{profiled_binding}
-use Rattle.term_match.specs.SubstView.{profiled_pairs}
-use Rattle.step_parts.specs.HandedOn.{instance_profiles}
+use Rattle.step_parts.specs.HandedOn.{instance_profiles, profiled_binding, profiled_pairs}
 use Rattle.step_parts.proofs.HandedOn.{of_signatures}
 use Rattle.step_parts.proofs.BinderLemmas.{bound_closed}
 use Rattle.step_taker.specs.Taken.{Ground}

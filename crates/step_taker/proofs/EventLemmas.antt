@@ -24,8 +24,7 @@ use Rattle.behaviour_tree.specs.DefinitionView.{specification_of}
 use Rattle.behaviour_tree.specs.MoveView.{label_of}
 use Rattle.behaviour_tree.specs.Over.{AreTermsOf}
 use Rattle.behaviour_tree.specs.StateView.{environment_of, pair_profile, stands_for}
-use Rattle.term_match.specs.SubstView.{profiled_pairs}
-use Rattle.step_parts.specs.HandedOn.{SuitsWhere}
+use Rattle.step_parts.specs.HandedOn.{profiled_pairs, SuitsWhere}
 use Rattle.step_parts.proofs.HandedOn.{states_suit}
 use Rattle.step_parts.specs.StepFaults.{greatest_number, IsWrongTold, kept_number, UnlessMemory}
 use Rattle.step_parts.specs.declared.faults.StepFault.{StepFault}

@@ -16,16 +16,16 @@ use Rattle.rewriting_theory.specs.Places.{places}
 use Rattle.rewriting_theory.proofs.ChosenLemmas.{chosen_one}
 use Rattle.rewriting_theory.proofs.PlaceListLemmas.{pairs_are_all}
 use Rattle.rewriting_theory.proofs.PairListLemmas.{NoneUnjoined, none_unjoined_then, none_unjoined_nothing, agreeing_joined, first_of_list, none_unjoined_confluent, unjoined_not_confluent, unjoined_two}
-use Rattle.termination_theory.specs.Precedence.{Precedence}
-use Rattle.termination_theory.specs.PathOrder.{IsGreater}
-use Rattle.termination_theory.specs.OrderTest.{is_greater}
-use Rattle.termination_theory.specs.Orientation.{AreOriented}
-use Rattle.termination_theory.specs.OrderCases.{later_above, compared_from_right}
-use Rattle.termination_theory.specs.OrientationCases.{constant, on_one, to_the_right, to_the_left, copied_rules}
-use Rattle.termination_theory.proofs.CaseLemmas.{is}
-use Rattle.termination_theory.proofs.CaseTests.{chosen_within, chosen_found}
-use Rattle.termination_theory.proofs.OrientationLemmas.{oriented_well_formed}
-use Rattle.termination_theory.proofs.TerminationLemmas.{rewriting_ends}
+use Rattle.rewriting_theory.specs.Precedence.{Precedence}
+use Rattle.rewriting_theory.specs.PathOrder.{IsGreater}
+use Rattle.rewriting_theory.specs.OrderTest.{is_greater}
+use Rattle.rewriting_theory.specs.Orientation.{AreOriented}
+use Rattle.rewriting_theory.specs.OrderCases.{later_above, compared_from_right}
+use Rattle.rewriting_theory.specs.OrientationCases.{constant, on_one, to_the_right, to_the_left, copied_rules}
+use Rattle.rewriting_theory.proofs.CaseLemmas.{is}
+use Rattle.rewriting_theory.proofs.CaseTests.{chosen_within, chosen_found}
+use Rattle.rewriting_theory.proofs.OrientationLemmas.{oriented_well_formed}
+use Rattle.rewriting_theory.proofs.TerminationLemmas.{rewriting_ends}
 use Rattle.worked_cases.specs.Samples.{var, two_results, one_rule, twice, meets, never_both, from_the_right}
 use Rattle.worked_cases.specs.PairCases.{two_results_pairs, TwoResultCases, sums_pairs, SumCases, copies_pairs, CopyCases, OneRuleCases, twice_pairs, TwiceCases, meets_pairs, MeetCases, ApartCases, left_sums_pairs, RightStatusCases}
 use Rattle.worked_cases.proofs.PairTests.{pairs_within, pairs_found}

@@ -6,7 +6,7 @@ use Rattle.rewriting_theory.specs.ChosenForm.{Chosen}
 use Rattle.rewriting_theory.specs.CriticalPair.{CriticalPair}
 use Rattle.rewriting_theory.specs.PairList.{AreCriticalPairs, IsFirstUnjoined}
 use Rattle.rewriting_theory.specs.PairListLaws.{RewritesToTwo}
-use Rattle.termination_theory.specs.OrientationCases.{constant, on_one, on_two, add, zero_term, to_the_right, to_the_left, copied_rules}
+use Rattle.rewriting_theory.specs.OrientationCases.{constant, on_one, on_two, add, zero_term, to_the_right, to_the_left, copied_rules}
 use Rattle.worked_cases.specs.Samples.{var, sample_critical_pair, two_results, one_rule, twice, meets, never_both, from_the_right}
 
 -- f(a) = b and f(x) = c overlap at the root, in both orders; f(a) has the two results b and c

@@ -3,7 +3,7 @@ use Rattle.std.specs.Prelude.{ℕ, List, [], ◌∷◌}
 use Rattle.lotos_base.specs.Term.{Term, variable}
 use Rattle.rewriting_theory.specs.Rule.{Rule}
 use Rattle.rewriting_theory.specs.CriticalPair.{CriticalPair}
-use Rattle.termination_theory.specs.OrientationCases.{constant, on_one, on_two}
+use Rattle.rewriting_theory.specs.OrientationCases.{constant, on_one, on_two}
 
 -- a variable of the first sort, by its number
 abbrev pub var : ℕ → Term

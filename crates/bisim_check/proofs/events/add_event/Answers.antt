@@ -5,7 +5,7 @@ use Rattle.lotos_base.proofs.Members.{at_map}
 use Rattle.behaviour_semantics.proofs.InstanceLemmas.{every_at}
 use Rattle.behaviour_semantics.proofs.OptionLemmas.{some_value}
 use Rattle.behaviour_tree.specs.StateView.{state_of}
-use Rattle.menu_builder.specs.HandedOn.{plain_entry, IsEntryOver, Entry}
+use Rattle.menu_builder.specs.HandedOn.{plain_entry, IsEntryOver, Entry, menu_entries}
 use Rattle.bisim_check.specs.Events.{event_of, IsEventOf}
 use Rattle.bisim_check.specs.Readings.{IsClosedOne}
 use Rattle.bisim_check.specs.Surveys.{side_over}
@@ -14,17 +14,17 @@ use Rattle.bisim_check.proofs.events.add_event.Goals as goal
 pub event_at-requires-clause-there : goal.event_at-requires-clause-there
 event_at-requires-clause-there g c = (
   c.args.position,
-  at_map plain_entry c.args.surveyed.now.menu.entries.items c.args.position c.in-Some.entry.now (sym c.in-Some.ensures),
+  at_map plain_entry (menu_entries c.args.surveyed.now.menu) c.args.position c.in-Some.entry.now (sym c.in-Some.ensures),
 )
 
 pub event_at-requires-clause-over : goal.event_at-requires-clause-over
 event_at-requires-clause-over g c =
-    (every_at (IsEntryOver (g.D.Deciding.known_data c.args.data.now).signature) c.args.surveyed.now.menu.entries.items c.args.position
+    (every_at (IsEntryOver (g.D.Deciding.known_data c.args.data.now).signature) (menu_entries c.args.surveyed.now.menu) c.args.position
     c.in-Some.entry.now c.requires.surveyed.entries (sym c.in-Some.ensures)).entry_of
 
 pub event_at-requires-clause-closed : goal.event_at-requires-clause-closed
 event_at-requires-clause-closed g c =
-    every_at IsClosedOne c.args.surveyed.now.menu.entries.items c.args.position c.in-Some.entry.now c.requires.closed
+    every_at IsClosedOne (menu_entries c.args.surveyed.now.menu) c.args.position c.in-Some.entry.now c.requires.closed
     (sym c.in-Some.ensures)
 
 pub returns-in-None-clause-added : goal.returns-in-None-clause-added

@@ -4,7 +4,7 @@ use Rattle.lotos_base.specs.Equation.{Data}
 use Rattle.lotos_base.specs.Term.{Term}
 use Rattle.behaviour_semantics.specs.Solving as solving
 use Rattle.behaviour_tree.specs.StateView.{state_of}
-use Rattle.menu_builder.specs.HandedOn.{plain_entry}
+use Rattle.menu_builder.specs.HandedOn.{plain_entry, menu_entries}
 use Rattle.menu_builder.proofs.HandedOn.{held_before, holds_after, keeps_both, keeps_itself}
 use Rattle.menu_builder.specs.Menus.{entries_in}
 use Rattle.bisim_check.specs.Events.{event_of, HasNewEvent}
@@ -39,7 +39,7 @@ loop-position-preserved g c =
     let spec = c.args.spec.now in
     let surveyed = c.args.surveyed.now in
     record {
-      events = events_more (side_over known canon spec) (state_of surveyed.state) surveyed.menu.entries.items c.loop-position.position
+      events = events_more (side_over known canon spec) (state_of surveyed.state) (menu_entries surveyed.menu) c.loop-position.position
           (map event_of c.loop-position.made.items) (map event_of c.add_event.new.events.items) (omega arith)
           (λ entry there. held_before (λ (d : Data) (k : Term → Term). HasNewEvent (side_over d k spec) (state_of surveyed.state)
           (plain_entry entry) (map event_of c.loop-position.made.items) (map event_of c.add_event.new.events.items))
@@ -54,4 +54,4 @@ returns-clause-events g c =
     subst (λ (it : List solving.Entry). AreEvents (side_over (g.D.Deciding.known_data c.args.data.now)
     (g.D.Deciding.canon c.args.data.now) c.args.spec.now) (state_of surveyed.state) it (map event_of c.loop-position.made.items))
     (take_all c.loop-position.position (entries_in surveyed.menu)
-    (omega (arith, length-map surveyed.menu.entries.items plain_entry))) c.loop-position.invariant.events
+    (omega (arith, length-map (menu_entries surveyed.menu) plain_entry))) c.loop-position.invariant.events

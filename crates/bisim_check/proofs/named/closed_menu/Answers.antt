@@ -4,6 +4,7 @@ use Rattle.bisim_check.specs.Readings.{IsClosedOne, IsOpenFault}
 use Rattle.bisim_check.proofs.AnswerLemmas.{each_below, place_within}
 use Rattle.behaviour_semantics.proofs.EveryLemmas.{every_from}
 use Rattle.lotos_base.proofs.Options.{gave_up}
+use Rattle.menu_builder.specs.HandedOn.{menu_entries}
 use Rattle.bisim_check.proofs.named.closed_menu.Goals as goal
 
 pub returns-in_err-closed_at : goal.returns-in_err-closed_at
@@ -13,10 +14,10 @@ returns-in_err-closed_at c =
 
 pub loop-position-preserved : goal.loop-position-preserved
 loop-position-preserved c =
-    each_below IsClosedOne c.args.menu.now.entries.items c.loop-position.position c.loop-position.invariant c.in_ok-closed_at.ensures
+    each_below IsClosedOne (menu_entries c.args.menu.now) c.loop-position.position c.loop-position.invariant c.in_ok-closed_at.ensures
 
 pub returns : goal.returns
 returns c =
-    let entries = c.args.menu.now.entries.items in
+    let entries = (menu_entries c.args.menu.now) in
     every_from IsClosedOne entries (λ k entry there. c.loop-position.invariant k entry
     (omega (arith, place_within entries k entry there, c.len-position-end.ensures)) there)

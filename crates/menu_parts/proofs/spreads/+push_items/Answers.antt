@@ -29,12 +29,12 @@ pub returns-in_ok-push_items-in-Both-clause-same : goal.returns-in_ok-push_items
 returns-in_ok-push_items-in-Both-clause-same t c =
     IfOk-weaker c.push_items-in-Both-2.result _ _ (λ u e.
     both_pushed c.args.items.now.items c.push_items-in-Both.new.items.items c.push_items-in-Both-2.new.items.items c.in-Both.left
-    c.in-Both.right c.args.spread.now c.deref-in-Both.result.now c.deref-in-Both-2.result.now c.in-Both.is c.deref-in-Both.ensures
-    c.deref-in-Both-2.ensures c.in_ok-push_items-in-Both.ensures.same e) c.push_items-in-Both-2.ensures.same
+    c.in-Both.right c.in-Both.field-2 c.args.spread.now c.deref-in-Both.result.now c.deref-in-Both-2.result.now c.in-Both.is
+    c.deref-in-Both.ensures c.deref-in-Both-2.ensures c.in_ok-push_items-in-Both.ensures.same e) c.push_items-in-Both-2.ensures.same
 
 pub returns-in_ok-push_items-in-Both-clause-terms : goal.returns-in_ok-push_items-in-Both-clause-terms
 returns-in_ok-push_items-in-Both-clause-terms t c =
     IfOk-weaker c.push_items-in-Both-2.result _ _ (λ u e.
     both_pushed_terms c.args.items.now.items c.push_items-in-Both.new.items.items c.push_items-in-Both-2.new.items.items c.in-Both.left
-    c.in-Both.right c.args.spread.now c.deref-in-Both.result.now c.deref-in-Both-2.result.now c.in-Both.is c.deref-in-Both.ensures
-    c.deref-in-Both-2.ensures c.in_ok-push_items-in-Both.ensures.terms e) c.push_items-in-Both-2.ensures.terms
+    c.in-Both.right c.in-Both.field-2 c.args.spread.now c.deref-in-Both.result.now c.deref-in-Both-2.result.now c.in-Both.is
+    c.deref-in-Both.ensures c.deref-in-Both-2.ensures c.in_ok-push_items-in-Both.ensures.terms e) c.push_items-in-Both-2.ensures.terms

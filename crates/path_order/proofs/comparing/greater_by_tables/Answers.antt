@@ -2,9 +2,9 @@ use Rattle.std.proofs.Common.{◌≡◌, Bool, ap, sym, ◌∙◌, subst}
 use Rattle.std.specs.Prelude.{◌↔◌, IsTrue}
 use Rattle.sort_terms.specs.SortedView.{term_in}
 use Rattle.sort_terms.specs.TermView.{term_of}
-use Rattle.termination_theory.specs.PathOrder.{IsGreater}
-use Rattle.termination_theory.specs.OrderTest.{is_greater}
-use Rattle.termination_theory.proofs.OrderLemmas.{greater_decided}
+use Rattle.rewriting_theory.specs.PathOrder.{IsGreater}
+use Rattle.rewriting_theory.specs.OrderTest.{is_greater}
+use Rattle.rewriting_theory.proofs.OrderLemmas.{greater_decided}
 use Rattle.path_order.specs.Comparison.{compared, greater_in}
 use Rattle.path_order.specs.PrecedenceView.{precedence_of}
 use Rattle.path_order.proofs.TableLemmas.{greater_of}

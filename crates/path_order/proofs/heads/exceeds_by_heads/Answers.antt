@@ -2,7 +2,7 @@ use Rattle.std.proofs.Common.{◌≡◌, ap, sym, ◌∙◌, subst}
 use Rattle.sort_terms.specs.ProfiledTerm.{all_bare}
 use Rattle.sort_terms.specs.TermView.{term_of}
 use Rattle.lotos_base.specs.Term.{Term as PlainTerm, node}
-use Rattle.termination_theory.specs.PathOrder.{IsGreater}
+use Rattle.rewriting_theory.specs.PathOrder.{IsGreater}
 use Rattle.path_order.specs.Heads.{below_head}
 use Rattle.path_order.specs.PrecedenceView.{precedence_of}
 use Rattle.path_order.proofs.CodeLemmas.{term_of-Node}

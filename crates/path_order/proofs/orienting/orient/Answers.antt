@@ -1,7 +1,7 @@
 use Rattle.std.proofs.Common.{Vec, Global, sym, subst}
 use Rattle.lotos_base.specs.Signature.{Signature}
 use Rattle.sort_terms.specs.EquationView.{data_of}
-use Rattle.termination_theory.specs.Orientation.{rules_of}
+use Rattle.rewriting_theory.specs.Orientation.{rules_of}
 use Rattle.path_order.specs.PrecedenceView.{precedence_of}
 use Rattle.path_order.specs.RewritingEnd.{RewritingEndsBy}
 use Rattle.path_order.specs.RuleSides.{AreRulesOver}

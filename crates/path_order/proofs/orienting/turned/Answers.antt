@@ -1,7 +1,7 @@
 use Rattle.std.proofs.Common.{List, sym, subst, arith}
 use Rattle.std.proofs.lemmas.Result.{err_from_is_err_and}
 use Rattle.sort_terms.specs.SignatureView.{signature_of}
-use Rattle.termination_theory.specs.Orientation.{GiveRules, no_more}
+use Rattle.rewriting_theory.specs.Orientation.{GiveRules, no_more}
 use Rattle.path_order.specs.PrecedenceView.{precedence_of}
 use Rattle.path_order.specs.RuleView.{numbered_rules}
 use Rattle.path_order.specs.declared.rule.Rule.{Rule}

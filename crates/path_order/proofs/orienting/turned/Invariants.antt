@@ -1,7 +1,7 @@
 use Rattle.std.proofs.Common.{take, map}
 use Rattle.sort_terms.specs.EquationView.{equation_of}
 use Rattle.sort_terms.specs.SignatureView.{signature_of}
-use Rattle.termination_theory.specs.Orientation.{GiveRules}
+use Rattle.rewriting_theory.specs.Orientation.{GiveRules}
 use Rattle.path_order.specs.PrecedenceView.{precedence_of}
 use Rattle.path_order.specs.RuleSides.{AreRulesOver}
 use Rattle.path_order.specs.RuleView.{numbered_rules}

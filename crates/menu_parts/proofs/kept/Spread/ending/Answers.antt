@@ -12,4 +12,4 @@ returns-in-Under-clause-none_ends c = λ basis way h.
 
 pub returns-in-Both-clause-none_ends : goal.returns-in-Both-clause-none_ends
 returns-in-Both-clause-none_ends c = λ basis way h.
-    subst (λ (s : Spread). NoneEnds (spread_menu s)) (sym c.in-Both.is) (both_none c.in-Both.field-0 c.in-Both.field-1)
+    subst (λ (s : Spread). NoneEnds (spread_menu s)) (sym c.in-Both.is) (both_none c.in-Both.field-0 c.in-Both.field-1 c.in-Both.field-2)

@@ -1,11 +1,7 @@
-use Rattle.std.proofs.Common.{◌∙◌, map, ap, subst}
-use Rattle.behaviour_semantics.specs.WellFormed.{Every}
+use Rattle.std.proofs.Common.{◌∙◌, ap}
 use Rattle.behaviour_tree.specs.StateView.{stands_for, state_of}
-use Rattle.shared_entries.specs.Items.{HasEntryTerms, HasItemTerms, plain_item}
 use Rattle.step_taker.specs.Taken.{ground_of}
-use Rattle.menu_parts.specs.Spread.{listed_for}
-use Rattle.menu_parts.specs.declared.kept.Kept.{Kept}
-use Rattle.menu_parts.proofs.MakerLemmas.{copied_node, kept_borrowed, menu_exact, menu_over}
+use Rattle.menu_parts.proofs.MakerLemmas.{copied_node, entries_kept, kept_borrowed, menu_exact, menu_over}
 use Rattle.menu_parts.proofs.makers.PartMenusMenuMaker.make.Goals as goal
 
 pub brought-requires-clause-base : goal.brought-requires-clause-base
@@ -30,7 +26,9 @@ pub returns-clause-exact : goal.returns-clause-exact
 returns-clause-exact g c =
     menu_exact (ground_of (g.D.Deciding.known_data c.args.decider.now) (g.D.Deciding.canon c.args.decider.now) c.args.spec.now)
     c.in_ok-node.node.value c.in_ok-next.next.value c.in_ok-next.ensures.kept c.in_ok-menu.menu
-    (c.in_ok-menu.ensures.same ∙ ap (λ (k : Kept). map plain_item (listed_for k).items.items) c.deref.ensures)
+    (entries_kept (ground_of (g.D.Deciding.known_data c.args.decider.now) (g.D.Deciding.canon c.args.decider.now) c.args.spec.now)
+    c.in_ok-node.node.value c.in_ok-next.next.value c.deref.result.now c.in_ok-menu.menu c.deref.ensures c.in_ok-next.ensures.kept
+    c.in_ok-menu.ensures)
     (state_of c.args.state.now)
     (ap stands_for c.in_ok-node.ensures ∙ (c.in_ok-copy.ensures.same ∙ ap stands_for c.node.ensures))
 
@@ -38,14 +36,13 @@ pub returns-clause-over : goal.returns-clause-over
 returns-clause-over g c =
     menu_over (ground_of (g.D.Deciding.known_data c.args.decider.now) (g.D.Deciding.canon c.args.decider.now) c.args.spec.now)
     c.in_ok-node.node.value c.in_ok-next.next.value c.in_ok-next.ensures.kept c.in_ok-menu.menu
-    (c.in_ok-menu.ensures.same ∙ ap (λ (k : Kept). map plain_item (listed_for k).items.items) c.deref.ensures)
+    (entries_kept (ground_of (g.D.Deciding.known_data c.args.decider.now) (g.D.Deciding.canon c.args.decider.now) c.args.spec.now)
+    c.in_ok-node.node.value c.in_ok-next.next.value c.deref.result.now c.in_ok-menu.menu c.deref.ensures c.in_ok-next.ensures.kept
+    c.in_ok-menu.ensures)
     (record { signature = c.requires.signature; is_canon = g.met.D.Deciding.is_canon c.args.decider.now; over = c.requires.over })
     (copied_node (g.D.Deciding.known_data c.args.decider.now) (g.D.Deciding.canon c.args.decider.now) c.args.spec.now c.args.state.now
     c.node.result.now c.in_ok-copy.copy c.in_ok-node.node.value c.node.ensures c.in_ok-copy.ensures.same c.in_ok-copy.ensures.terms
     c.in_ok-copy.ensures.closed c.in_ok-node.ensures c.requires.state c.requires.closed)
-    (subst (λ (k : Kept). Every (HasItemTerms (g.D.Deciding.known_data c.args.decider.now).signature) (listed_for k).items.items
-    → Every (HasEntryTerms (g.D.Deciding.known_data c.args.decider.now).signature) c.in_ok-menu.menu.entries.items) c.deref.ensures
-    (c.in_ok-menu.ensures.terms (g.D.Deciding.known_data c.args.decider.now).signature))
 
 pub returns-clause-suits_after : goal.returns-clause-suits_after
 returns-clause-suits_after g c = record {

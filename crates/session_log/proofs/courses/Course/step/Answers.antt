@@ -7,7 +7,7 @@ use Rattle.behaviour_tree.specs.DefinitionView.{specification_of}
 use Rattle.behaviour_tree.specs.MoveView.{derivation_of}
 use Rattle.behaviour_tree.specs.StateView.{state_of}
 use Rattle.behaviour_tree.specs.BehaviourView.{terms_of}
-use Rattle.menu_builder.specs.HandedOn.{plain_entry, IsEntryOf}
+use Rattle.menu_builder.specs.HandedOn.{plain_entry, IsEntryOf, menu_entries}
 use Rattle.menu_builder.specs.Menus.{entries_in}
 use Rattle.sort_terms.specs.declared.sorted.Sorted.{Sorted}
 use Rattle.menu_builder.proofs.HandedOn.{held_before, holds_after, keeps_both}
@@ -143,7 +143,7 @@ returns-clause-answered g c =
       exact = exact_over known _ canon _ spec c.in_ok-taken.taken.1 c.in_ok-menu.menu later.same_data later.same_canon
           c.in_ok-menu.ensures.exact;
       entries = subst (λ (d : Data). IsKeptMenu d.signature c.in_ok-menu.menu) later.same_data
-          (menu_kept _ c.in_ok-menu.menu.entries.items c.in_ok-menu.ensures.over);
+          (menu_kept _ (menu_entries c.in_ok-menu.menu) c.in_ok-menu.ensures.over);
       numbered = refl;
       valued = refl;
       labelled = c.in_ok-kept.ensures.same;
@@ -179,7 +179,7 @@ returns-clause-kept_after g c =
       exact = exact_over known _ canon _ spec c.in_ok-taken.taken.1 c.in_ok-menu.menu later.same_data later.same_canon
           c.in_ok-menu.ensures.exact;
       entries = subst (λ (d : Data). IsKeptMenu d.signature c.in_ok-menu.menu) later.same_data
-          (menu_kept _ c.in_ok-menu.menu.entries.items c.in_ok-menu.ensures.over);
+          (menu_kept _ (menu_entries c.in_ok-menu.menu) c.in_ok-menu.ensures.over);
       numbered = refl;
       valued = refl;
       labelled = c.in_ok-kept.ensures.same;

@@ -1,6 +1,6 @@
 use Rattle.std.proofs.Common.{List, sym, subst, ap, map, ◌∙◌}
 use Rattle.rewriting_theory.specs.Rewriting.{AreConfluent}
-use Rattle.termination_theory.specs.Orientation.{NumberedRule, rules_of}
+use Rattle.rewriting_theory.specs.Orientation.{NumberedRule, rules_of}
 use Rattle.sort_terms.specs.Operations.{operation_of}
 use Rattle.sort_terms.specs.declared.operations.Op.{Op}
 use Rattle.sort_terms.specs.declared.signatures.Signature.{Signature}

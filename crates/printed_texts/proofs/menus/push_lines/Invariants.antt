@@ -1,9 +1,0 @@
-use Rattle.std.proofs.Common.{◌≡◌, ◌++◌, ◌+◌, drop}
-use Rattle.printed_texts.specs.TextView.{written_lines}
-use Rattle.printed_texts.proofs.menus.push_lines.Given as goal
-
--- the lines so far are written
-abbrev pub invariant-loop-position : goal.invariant-loop-position
-invariant-loop-position l =
-    l.into.items ++ written_lines l.signature l.gates (l.position + 1) (drop l.position l.menu.entries.items)
-    ≡ l.initial.into.items ++ written_lines l.signature l.gates 1 l.menu.entries.items
