@@ -7,7 +7,7 @@ ghost use Rattle.spec_acceptance.specs.Acceptance.{Acceptance};
 ghost use Rattle.spec_acceptance.specs.AcceptedView.{HoldsAccepted};
 ghost use Rattle.spec_acceptance.specs.HandedOn.{book_is_canon};
 
-use crate::accepted::accept;
+use crate::accepted::{accept, opened};
 use crate::sessions::nought;
 use behaviour_tree::{Spec, State};
 use demo_walks::{Book, MenuMaker, Ranks, Session, demo_text};
@@ -87,14 +87,8 @@ fn asked_at_first<M: MenuMaker>(
         (book_canon accepted.book) }
     requires given { AreGiven (signature_of accepted.book.flat.signature) values.items }
 {
-    let Accepted {
-        spec,
-        ranks,
-        book,
-        start,
-    } = accepted;
+    let (mut session, book) = opened(alloc, accepted, maker)?;
     let mut counting = Counting { book, asked: 0 };
-    let mut session = Session::open(alloc, spec, ranks, start, maker, &mut counting)?;
     Ok(asked_by(&mut session, values, &mut counting))
 }
 

@@ -13,7 +13,7 @@ ghost use Rattle.spec_acceptance.specs.Acceptance.{Acceptance};
 ghost use Rattle.spec_acceptance.specs.AcceptedView.{HoldsAccepted};
 ghost use Rattle.std.specs.Prelude.{◌≡◌, IfOk};
 
-use crate::accepted::accept;
+use crate::accepted::{accept, opened};
 use demo_walks::{Book, FreshMenus, HistoryLines, MenuMaker, Session, serve_input};
 use lotos_base::{MemShelf, MemSink, MemSource, NoMemory};
 use menu_parts::PartMenus;
@@ -99,31 +99,6 @@ step 2
 step 1 0
 step 2
 step 2";
-
-// The session that begins with what was accepted, and its book.
-fn opened<M: MenuMaker>(
-    alloc: Global,
-    accepted: Accepted,
-    maker: M,
-) -> Result<(Session<M>, Book), NoMemory>
-    requires known { (acceptance : Acceptance) × HoldsAccepted acceptance accepted }
-    requires suited { M.suits maker accepted.spec (data_of accepted.book.flat)
-        (book_canon accepted.book) }
-    ensures lawful { IfOk result (λ made. IsLawfulSession M.suits (data_of made.1.flat)
-        (book_canon made.1) made.0) }
-    ensures signature { IfOk result (λ made. signature_of made.1.flat.signature
-        ≡ signature_of accepted.book.flat.signature) }
-{
-    let Accepted {
-        spec,
-        ranks,
-        book,
-        start,
-    } = accepted;
-    let mut book = book;
-    let session = Session::open(alloc, spec, ranks, start, maker, &mut book)?;
-    Ok((session, book))
-}
 
 // What the session prints for the input.
 fn served<M: MenuMaker>(

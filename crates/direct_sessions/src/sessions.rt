@@ -7,7 +7,7 @@ ghost use Rattle.spec_acceptance.specs.Acceptance.{Acceptance};
 ghost use Rattle.spec_acceptance.specs.AcceptedView.{HoldsAccepted};
 ghost use Rattle.std.specs.Prelude.{IfOk};
 
-use crate::accepted::accept;
+use crate::accepted::{accept, opened};
 use demo_walks::values::CellValues;
 use demo_walks::{Book, FreshMenus, Session, StepRefusal};
 use lotos_base::NoMemory;
@@ -48,14 +48,7 @@ fn is_refused_at_first(
     requires known { (acceptance : Acceptance) × HoldsAccepted acceptance accepted }
     requires given { AreGiven (signature_of accepted.book.flat.signature) values.items }
 {
-    let Accepted {
-        spec,
-        ranks,
-        book,
-        start,
-    } = accepted;
-    let mut book = book;
-    let mut session = Session::open(alloc, spec, ranks, start, FreshMenus, &mut book)?;
+    let (mut session, mut book) = opened(alloc, accepted, FreshMenus)?;
     Ok(is_refused(&mut session, values, &mut book))
 }
 

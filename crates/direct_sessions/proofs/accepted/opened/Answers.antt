@@ -1,9 +1,9 @@
-use Rattle.std.proofs.Common.{sym, subst}
+use Rattle.std.proofs.Common.{ap}
 use Rattle.lotos_base.specs.Equation.{Data}
 use Rattle.lotos_base.specs.Term.{Term}
 use Rattle.demo_walks.proofs.HandedOn.{holds_after}
-use Rattle.demo_walks.specs.HandedOn.{AreGiven, IsLawfulSession}
-use Rattle.direct_sessions.proofs.counted.asked_at_first.Goals as goal
+use Rattle.demo_walks.specs.HandedOn.{IsLawfulSession}
+use Rattle.direct_sessions.proofs.accepted.opened.Goals as goal
 
 pub open-requires-clause-suited : goal.open-requires-clause-suited
 open-requires-clause-suited g c = record {
@@ -16,11 +16,10 @@ open-requires-clause-suited g c = record {
 pub open-requires-clause-kept : goal.open-requires-clause-kept
 open-requires-clause-kept g c = record { over = c.requires.known.1.state; closed = c.requires.known.1.closed }
 
-pub asked_by-requires-clause-lawful : goal.asked_by-requires-clause-lawful
-asked_by-requires-clause-lawful g c =
+pub returns-clause-lawful : goal.returns-clause-lawful
+returns-clause-lawful g c =
     holds_after (λ (d : Data) (k : Term → Term). IsLawfulSession g.M.MenuMaker.suits d k c.in_ok-session.session)
     c.in_ok-session.ensures.same_known c.in_ok-session.ensures.lawful
 
-pub asked_by-requires-clause-given : goal.asked_by-requires-clause-given
-asked_by-requires-clause-given g c =
-    subst (λ (d : Data). AreGiven d.signature c.args.values.items) (sym c.in_ok-session.ensures.same_known.same_data) c.requires.given
+pub returns-clause-signature : goal.returns-clause-signature
+returns-clause-signature g c = ap (λ (d : Data). d.signature) c.in_ok-session.ensures.same_known.same_data
