@@ -1,10 +1,8 @@
 -- The entry that the table of places gives is the one of the definition.
-use Rattle.std.proofs.Common.{◌≡◌, ℕ, List, map, slice_get, refl, ap, sym, ◌∙◌}
+use Rattle.std.proofs.Common.{◌≡◌, ℕ, List, map, slice_get, ap, sym, ◌∙◌}
 use Rattle.std.specs.Prelude.{unwrap_or}
-use Rattle.lotos_base.specs.Term.{Term, variable}
+use Rattle.lotos_base.specs.Term.{variable}
 use Rattle.lotos_base.specs.Substitution.{Substitution, substituted, renaming}
-use Rattle.behaviour_semantics.specs.Behaviour.{Test}
-use Rattle.behaviour_semantics.specs.Label as plain_label
 use Rattle.behaviour_semantics.specs.Replacement.{test_with}
 use Rattle.behaviour_semantics.specs.Draft as plain
 use Rattle.behaviour_semantics.specs.Draft.{label_with}

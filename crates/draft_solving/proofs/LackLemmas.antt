@@ -1,5 +1,5 @@
 -- Terms without a variable stay when something is put for it.
-use Rattle.std.proofs.Common.{◌≡◌, ℕ, List, [], ◌∷◌, Bool, true, false, ◌||◌, nat_eq, if◌then◌else◌, refl, ap, sym, eq-eqb, eqb-true}
+use Rattle.std.proofs.Common.{◌≡◌, ℕ, [], ◌∷◌, Bool, true, false, nat_eq, if◌then◌else◌, refl, ap, sym, eq-eqb, eqb-true}
 use Rattle.std.proofs.lemmas.Bool.{or_parts}
 use Rattle.lotos_base.specs.Term.{Term, variable, node, term_then}
 use Rattle.lotos_base.specs.Substitution.{substituted, all_substituted, binding}

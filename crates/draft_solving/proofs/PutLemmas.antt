@@ -1,16 +1,12 @@
 -- A term put for one variable.
-use Rattle.std.proofs.Common.{◌≡◌, ◌<◌, ◌≤◌, ◌-◌, length, get_or, ap, arith, ℕ, zero, suc, List, [], ◌∷◌, Bool, true, false, nat_eq, slice_get, if◌then◌else◌, refl, sym, ◌∙◌, subst, eqb-true}
-use Rattle.std.proofs.Math.Path.{fun_ext}
-use Rattle.lotos_base.specs.Signature.{Signature, IsSort}
+use Rattle.std.proofs.Common.{◌≡◌, ℕ, [], ◌∷◌, Bool, true, false, nat_eq, if◌then◌else◌, refl, sym, subst, eqb-true}
+use Rattle.lotos_base.specs.Signature.{Signature}
 use Rattle.lotos_base.specs.Sorting.{Occurs}
-use Rattle.lotos_base.specs.Substitution.{substituted, binding, Substitution}
-use Rattle.lotos_base.specs.Term.{Term}
-use Rattle.sort_terms.specs.ProfiledTerm.{ProfiledTerm, profiled_variable, bare, head_sort, FitsProfiles, IsOf}
+use Rattle.sort_terms.specs.ProfiledTerm.{ProfiledTerm, profiled_variable, bare, head_sort, IsOf}
 use Rattle.sort_terms.specs.SortedView.{profiled_in, term_in}
 use Rattle.sort_terms.specs.declared.sorted.Sorted.{Sorted}
-use Rattle.term_match.specs.ProfiledInstance.{profiled_instance, profiled_binding, bare_pairs}
-use Rattle.term_match.proofs.InstanceLemmas.{instance_bare, instance_fits, instance_of, binding_fits, binding_bare}
-use Rattle.term_match.specs.SubstView.{profiled_pairs}
+use Rattle.term_match.specs.ProfiledInstance.{profiled_instance, profiled_binding}
+use Rattle.term_match.proofs.InstanceLemmas.{instance_of}
 use Rattle.draft_solving.specs.Changing.{put_of, PutsSort}
 use Rattle.event_offers.proofs.RenamingLemmas.{occurring_sort}
 

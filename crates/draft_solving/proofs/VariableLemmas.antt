@@ -1,8 +1,7 @@
 -- The table of sorts says which variables are left, and where each number goes.
-use Rattle.std.proofs.Common.{◌≡◌, ◌<◌, ◌≤◌, ℕ, zero, suc, ◌+◌, List, [], ◌∷◌, map, length, slice_get, get_or, drop, ◌-◌, Option, None, Some, Bool, true, false, nat_eq, if◌then◌else◌, refl, ap, sym, ◌∙◌, arith, subst, eq-eqb, ne_eqb, eqb-true}
+use Rattle.std.proofs.Common.{◌≡◌, ◌<◌, ◌≤◌, ℕ, zero, suc, ◌+◌, List, [], ◌∷◌, map, length, slice_get, get_or, drop, ◌-◌, Option, None, Some, true, false, nat_eq, if◌then◌else◌, refl, ap, sym, ◌∙◌, arith, subst, eq-eqb, ne_eqb}
 use Rattle.std.specs.Prelude.{unwrap_or, slice_set}
 use Rattle.lotos_base.specs.Term.{Term, variable, node}
-use Rattle.lotos_base.specs.Substitution.{Substitution}
 use Rattle.behaviour_semantics.specs.Solving.{leaf_sort, numbered, variables_left, place_of_number}
 use Rattle.behaviour_semantics.proofs.LeftVariables.{RisesFrom, left_rises}
 use Rattle.std.proofs.Math.Seq.{drop-cons}

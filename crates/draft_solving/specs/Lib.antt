@@ -1,4 +1,10 @@
 pub mod Changing
+pub mod Conditions
 pub mod Finding
-pub mod Merging
+pub mod Naming
+pub mod OnTheWay
+pub mod Putting
+pub mod Spreading
+pub mod Standing
 pub mod Variables
+pub mod Way

@@ -1,5 +1,5 @@
 -- The variables that are left, as the code finds them: a table of sorts by number, and what it says.
-use Rattle.std.specs.Prelude.{ℕ, suc, ◌+◌, List, [], ◌∷◌, Option, None, Some, slice_set}
+use Rattle.std.specs.Prelude.{ℕ, suc, List, [], ◌∷◌, Option, None, Some, slice_set}
 use Rattle.lotos_base.specs.Term.{Term, variable, node}
 use Rattle.behaviour_semantics.specs.Solving.{leaf_sort}
 

@@ -4,9 +4,12 @@
 #![tactic(auto)]
 
 pub mod changing;
-pub mod merging;
+pub mod naming;
+pub mod places;
+pub mod putting;
 pub mod replacements;
 pub mod solving;
+pub mod spreading;
 pub mod variables;
 
 pub use solving::solve;

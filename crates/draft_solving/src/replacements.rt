@@ -1,19 +1,30 @@
 //! The condition that solving uses next.
 
 ghost use Rattle.behaviour_semantics.specs.Solving.{
-  first_replacement as first_given,
   has_closed as has_closed_condition,
   one_side as side_given,
   replacement_of,
 };
 ghost use Rattle.draft_solving.specs.Changing.{found_of};
-ghost use Rattle.draft_solving.specs.Finding.{found_term};
-ghost use Rattle.event_offers.specs.OfferView.{condition_profiles, conditions_of};
+ghost use Rattle.draft_solving.specs.Finding.{found_term, given_in};
+ghost use Rattle.draft_solving.specs.Conditions.{GiveNoneBefore, is_unmet as is_unmet_condition};
+ghost use Rattle.behaviour_semantics.specs.Behaviour.{Test};
+ghost use Rattle.event_offers.specs.OfferView.{condition_of, condition_profiles, conditions_of};
 ghost use Rattle.event_offers.specs.Offers.{AreConditionsOf};
 ghost use Rattle.sort_terms.specs.ProfiledTerm.{IsOf};
 ghost use Rattle.sort_terms.specs.SortedView.{profiled_in, term_in};
 ghost use Rattle.std.specs.Option.{option_map};
-ghost use Rattle.std.specs.Prelude.{◌≡◌, ◌&&◌, IfOk, IfSome, nat_lt, None, Some, if◌then◌else◌};
+ghost use Rattle.std.specs.Prelude.{
+  ◌≡◌,
+  ◌&&◌,
+  IfOk,
+  IfSome,
+  nat_lt,
+  None,
+  slice_get,
+  Some,
+  if◌then◌else◌,
+};
 ghost use Rattle.lotos_base.specs.Signature.{Signature};
 ghost use Rattle.lotos_base.specs.Tests.{is_ground};
 
@@ -42,23 +53,53 @@ fn is_closed(left: &Sorted, right: &Sorted) -> bool
     right.ground()
 }
 
-/// The variable that the first condition gives a value that gives one, with this value.
-pub fn first_replacement(
+/// Whether the condition has no variable, and its sides differ.
+pub fn is_unmet(condition: &(Sorted, Sorted)) -> bool
+    ensures { result ≡ is_unmet_condition (condition_of condition.now) }
+{
+    if !is_closed(&condition.0, &condition.1) {
+        return false;
+    }
+    !condition.0.same(&condition.1)
+}
+
+/// The first place from another on whose condition gives a replacement, or where there is none the
+/// end.
+pub fn next_place(conditions: &Vec<(Sorted, Sorted)>, from: usize) -> usize
+    ensures passed { GiveNoneBefore from (conditions_of conditions.now.items)
+        → GiveNoneBefore result (conditions_of conditions.now.items) }
+    ensures gives { (test : Test)
+        → slice_get (conditions_of conditions.now.items) result ≡ Some test
+        → replacement_of test.left test.right ≡ None → ⊥ }
+{
+    for place in from..conditions.len() {
+        let condition = &conditions[place];
+        if replacement(&condition.0, &condition.1).is_some() {
+            return place;
+        }
+    }
+    conditions.len()
+}
+
+/// The variable that the condition at the place gives a value, with this value.
+pub fn given_at(
     conditions: &Vec<(Sorted, Sorted)>,
+    place: usize,
 ) -> Result<Option<(u64, Sorted)>, NoMemory>
-    ensures same { IfOk result
-        (λ o. option_map found_of o ≡ first_given (conditions_of conditions.now.items)) }
+    ensures same { IfOk result (λ o. option_map found_of o
+        ≡ given_in (slice_get (conditions_of conditions.now.items) place)) }
     ensures is_of { IfOk result (λ o. IfSome o (λ found. (signature : Signature)
         → AreConditionsOf signature (condition_profiles conditions.now.items)
         → IsOf signature (profiled_in found.1))) }
 {
-    for condition in conditions {
-        match replacement(&condition.0, &condition.1) {
-            Some(found) => return Ok(Some((found.0, found.1.copy()?))),
-            None => {}
-        }
+    if place >= conditions.len() {
+        return Ok(None);
     }
-    Ok(None)
+    let condition = &conditions[place];
+    match replacement(&condition.0, &condition.1) {
+        Some((number, term)) => Ok(Some((number, term.copy()?))),
+        None => Ok(None),
+    }
 }
 
 /// The variable that a condition gives a value, with this value. Of two bare variables the later

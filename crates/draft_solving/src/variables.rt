@@ -1,7 +1,12 @@
 //! The variables that are left in a draft, and their new numbers.
 
 ghost use Rattle.behaviour_tree.specs.BehaviourView.{terms_of};
-ghost use Rattle.draft_solving.specs.Variables.{found_sorts, leaf_sorts, sort_noted, places_by_sorts};
+ghost use Rattle.draft_solving.specs.Variables.{
+  found_sorts,
+  leaf_sorts,
+  sort_noted,
+  places_by_sorts,
+};
 ghost use Rattle.sort_terms.specs.TermView.{term_of};
 ghost use Rattle.std.specs.Prelude.{◌≡◌, [], IfOk};
 

@@ -1,4 +1,4 @@
-use Rattle.std.proofs.Common.{ap, ◌∙◌, Bool, false, ◌&&◌}
+use Rattle.std.proofs.Common.{ap, ◌∙◌, Bool, ◌&&◌}
 use Rattle.lotos_base.specs.Tests.{is_ground}
 use Rattle.sort_terms.specs.SortedView.{term_in}
 use Rattle.draft_solving.proofs.GroundLemmas.{ground_told}

@@ -1,119 +1,33 @@
-use Rattle.std.proofs.Common.{ap, ◌∙◌, sym, Some, None}
+use Rattle.std.proofs.Common.{Some, sym, ◌∙◌, subst}
 use Rattle.lotos_base.specs.Equation.{Data}
 use Rattle.lotos_base.specs.Term.{Term}
-use Rattle.behaviour_semantics.specs.Solving.{tidied}
-use Rattle.draft_solving.specs.Changing.{AreReady, AreReadyPairs, changed_by}
-use Rattle.event_offers.specs.OfferView.{condition_profiles, label_profiles, plain_draft, plain_entry}
-use Rattle.behaviour_tree.specs.BehaviourTerms.{profiles_of}
-use Rattle.draft_solving.proofs.FindingLemmas.{gives_of, gives_none, found_is_of}
-use Rattle.event_offers.proofs.KeepingLemmas.{holds_after, keeps_both}
-use Rattle.draft_solving.proofs.SolvingWay.{reached_nothing, reached_entry, reached_next, fewer_next, ordered_entry, nothing_meets, values_ready, leaves_ready, conditions_ready, has_terms_moved}
+use Rattle.behaviour_semantics.specs.Solving as solving
+use Rattle.behaviour_semantics.specs.Solving.{SolvesTo}
+use Rattle.event_offers.specs.OfferView.{plain_draft, plain_entry}
+use Rattle.event_offers.specs.declared.drafts.Draft.{Draft}
+use Rattle.draft_solving.specs.Way.{IsUnderWay}
+use Rattle.draft_solving.proofs.SolvingWay.{over_left}
 use Rattle.draft_solving.proofs.solving.solve_by_steps.Goals as goal
 
-pub returns-then-has_closed-clause-solved : goal.returns-then-has_closed-clause-solved
-returns-then-has_closed-clause-solved g c =
-    reached_nothing (g.D.Deciding.known_data c.args.decider.now) (g.D.Deciding.canon c.args.decider.now) (g.met.D.Deciding.is_canon
-    c.args.decider.now)
-    (plain_draft c.args.draft) c.solving.now c.solving.invariant.0 (sym c.if-has_closed.ensures)
+pub returns-clause-solved : goal.returns-clause-solved
+returns-clause-solved g c =
+    let data_ : Data = g.D.Deciding.known_data c.args.decider.now in
+    let canon : Term → Term = g.D.Deciding.canon c.args.decider.now in
+    let is_canon = g.met.D.Deciding.is_canon c.args.decider.now in
+    let told = c.if-not-branch.false in
+    subst (λ (d : Draft). SolvesTo canon (plain_draft d) (Some (plain_entry c.in_ok-entry.entry)))
+    (c.in_ok-used_up.ensures.draft ∙ c.in_ok-work.ensures.draft)
+    (subst (λ (e : solving.Entry). SolvesTo canon (plain_draft c.used_up.new.work.draft) (Some e)) (sym c.in_ok-entry.ensures.same)
+    (c.in_ok-finished.ensures.finished data_ canon is_canon (c.in_ok-used_up.ensures.way told)
+    (c.in_ok-used_up.ensures.nothing_left told)))
 
-pub returns-then-has_closed-clause-nothing : goal.returns-then-has_closed-clause-nothing
-returns-then-has_closed-clause-nothing g c =
-    nothing_meets (g.D.Deciding.known_data c.args.decider.now) (g.D.Deciding.canon c.args.decider.now) (plain_draft c.args.draft)
-    (g.met.D.Deciding.is_canon c.args.decider.now) c.requires.order
-    (reached_nothing (g.D.Deciding.known_data c.args.decider.now) (g.D.Deciding.canon c.args.decider.now) (g.met.D.Deciding.is_canon
-    c.args.decider.now)
-    (plain_draft c.args.draft) c.solving.now c.solving.invariant.0 (sym c.if-has_closed.ensures))
-
-pub returns-in-None-clause-solved : goal.returns-in-None-clause-solved
-returns-in-None-clause-solved g c =
-    reached_entry (g.D.Deciding.known_data c.args.decider.now) (g.D.Deciding.canon c.args.decider.now) (g.met.D.Deciding.is_canon
-    c.args.decider.now)
-    (plain_draft c.args.draft) c.solving.now c.solving.invariant.0 (plain_entry c.in_ok-entry-in-None.entry) (sym c.if-has_closed.ensures)
-    (gives_none c.in_ok-given.given _ c.in-None.is c.in_ok-given.ensures.same) c.in_ok-entry-in-None.ensures.same
-
-pub returns-in-None-clause-over : goal.returns-in-None-clause-over
-returns-in-None-clause-over g c =
-    let both =
-    ordered_entry (g.D.Deciding.known_data c.args.decider.now) (g.D.Deciding.canon c.args.decider.now) (g.met.D.Deciding.is_canon
-    c.args.decider.now)
-    (plain_draft c.args.draft) (plain_entry c.in_ok-entry-in-None.entry) c.requires.order
-    (reached_entry (g.D.Deciding.known_data c.args.decider.now) (g.D.Deciding.canon c.args.decider.now) (g.met.D.Deciding.is_canon
-    c.args.decider.now)
-    (plain_draft c.args.draft) c.solving.now c.solving.invariant.0 (plain_entry c.in_ok-entry-in-None.entry) (sym c.if-has_closed.ensures)
-    (gives_none c.in_ok-given.given _ c.in-None.is c.in_ok-given.ensures.same) c.in_ok-entry-in-None.ensures.same) in
-    record {
-      entry_of = record {
-        order = both.0;
-        values = c.in_ok-entry-in-None.ensures.values (g.D.Deciding.known_data c.args.decider.now).signature
-            c.solving.invariant.0.terms.values;
-        leaves = c.in_ok-entry-in-None.ensures.leaves (g.D.Deciding.known_data c.args.decider.now).signature
-            c.solving.invariant.0.terms.leaves;
-        conditions = c.in_ok-entry-in-None.ensures.conditions (g.D.Deciding.known_data c.args.decider.now).signature
-            c.solving.invariant.0.terms.conditions;
-      };
-      as_draft = both.1;
-    }
-
-pub stepped-requires-clause-values : goal.stepped-requires-clause-values
-stepped-requires-clause-values g c =
-    holds_after (λ (d : Data) (k : Term → Term). AreReady d.signature k (Some c.in-Some.found) (label_profiles c.solving.now.label))
-    c.solving.invariant.1
-    (values_ready (g.D.Deciding.known_data c.args.decider.now) (g.D.Deciding.canon c.args.decider.now) (g.met.D.Deciding.is_canon
-    c.args.decider.now)
-    (plain_draft c.args.draft) c.solving.now c.solving.invariant.0 c.in-Some.found
-    (gives_of c.in_ok-given.given c.in-Some.found _ c.in-Some.is c.in_ok-given.ensures.same)
-    (found_is_of c.in_ok-given.given c.in-Some.found (condition_profiles c.solving.now.conditions.items)
-    (g.D.Deciding.known_data c.args.decider.now).signature c.in-Some.is c.in_ok-given.ensures.is_of c.solving.invariant.0.terms.conditions))
-
-pub stepped-requires-clause-leaves : goal.stepped-requires-clause-leaves
-stepped-requires-clause-leaves g c =
-    holds_after (λ (d : Data) (k : Term → Term). AreReady d.signature k (Some c.in-Some.found) (profiles_of c.solving.now.leaves.items))
-    c.solving.invariant.1
-    (leaves_ready (g.D.Deciding.known_data c.args.decider.now) (g.D.Deciding.canon c.args.decider.now) (g.met.D.Deciding.is_canon
-    c.args.decider.now)
-    (plain_draft c.args.draft) c.solving.now c.solving.invariant.0 c.in-Some.found
-    (gives_of c.in_ok-given.given c.in-Some.found _ c.in-Some.is c.in_ok-given.ensures.same)
-    (found_is_of c.in_ok-given.given c.in-Some.found (condition_profiles c.solving.now.conditions.items)
-    (g.D.Deciding.known_data c.args.decider.now).signature c.in-Some.is c.in_ok-given.ensures.is_of c.solving.invariant.0.terms.conditions))
-
-pub stepped-requires-clause-conditions : goal.stepped-requires-clause-conditions
-stepped-requires-clause-conditions g c =
-    holds_after (λ (d : Data) (k : Term → Term). AreReadyPairs d.signature k (Some c.in-Some.found)
-    (condition_profiles c.solving.now.conditions.items)) c.solving.invariant.1
-    (conditions_ready (g.D.Deciding.known_data c.args.decider.now) (g.D.Deciding.canon c.args.decider.now) (g.met.D.Deciding.is_canon
-    c.args.decider.now)
-    (plain_draft c.args.draft) c.solving.now c.solving.invariant.0 c.in-Some.found
-    (gives_of c.in_ok-given.given c.in-Some.found _ c.in-Some.is c.in_ok-given.ensures.same)
-    (found_is_of c.in_ok-given.given c.in-Some.found (condition_profiles c.solving.now.conditions.items)
-    (g.D.Deciding.known_data c.args.decider.now).signature c.in-Some.is c.in_ok-given.ensures.is_of c.solving.invariant.0.terms.conditions))
-
-pub solving-smaller : goal.solving-smaller
-solving-smaller g c =
-    fewer_next (g.D.Deciding.known_data c.args.decider.now) (g.D.Deciding.canon c.args.decider.now) (g.met.D.Deciding.is_canon
-    c.args.decider.now)
-    (plain_draft c.args.draft) c.solving.now c.solving.invariant.0 c.in-Some.found
-    (gives_of c.in_ok-given.given c.in-Some.found _ c.in-Some.is c.in_ok-given.ensures.same)
-    (found_is_of c.in_ok-given.given c.in-Some.found (condition_profiles c.solving.now.conditions.items)
-    (g.D.Deciding.known_data c.args.decider.now).signature c.in-Some.is c.in_ok-given.ensures.is_of c.solving.invariant.0.terms.conditions)
-    c.in_ok-now-in-Some.now
-    (c.in_ok-now-in-Some.ensures.same ∙ ap (λ (canon : Term → Term). tidied (changed_by canon (Some c.in-Some.found)) (plain_draft
-    c.solving.now)) c.solving.invariant.1.same_canon)
-
-pub solving-preserved : goal.solving-preserved
-solving-preserved g c = (
-  reached_next (g.D.Deciding.known_data c.args.decider.now) (g.D.Deciding.canon c.args.decider.now) (g.met.D.Deciding.is_canon
-      c.args.decider.now)
-      (plain_draft c.args.draft) c.solving.now c.solving.invariant.0 c.in-Some.found
-      (gives_of c.in_ok-given.given c.in-Some.found _ c.in-Some.is c.in_ok-given.ensures.same)
-      (found_is_of c.in_ok-given.given c.in-Some.found (condition_profiles c.solving.now.conditions.items)
-      (g.D.Deciding.known_data c.args.decider.now).signature c.in-Some.is c.in_ok-given.ensures.is_of
-      c.solving.invariant.0.terms.conditions)
-      c.in_ok-now-in-Some.now
-      (c.in_ok-now-in-Some.ensures.same ∙ ap (λ (canon : Term → Term). tidied (changed_by canon (Some c.in-Some.found)) (plain_draft
-      c.solving.now)) c.solving.invariant.1.same_canon)
-      (sym c.if-has_closed.ensures)
-      (has_terms_moved (g.D.Deciding.known_data c.args.decider.now) (g.D.Deciding.known_data c.solving.decider) c.in_ok-now-in-Some.now
-      c.solving.invariant.1.same_data
-      c.in_ok-now-in-Some.ensures.values c.in_ok-now-in-Some.ensures.leaves c.in_ok-now-in-Some.ensures.conditions),
-  keeps_both c.solving.invariant.1 c.in_ok-now-in-Some.ensures.same_known,
-)
+pub returns-clause-over : goal.returns-clause-over
+returns-clause-over g c =
+    let data_ : Data = g.D.Deciding.known_data c.args.decider.now in
+    let canon : Term → Term = g.D.Deciding.canon c.args.decider.now in
+    let way : IsUnderWay data_ canon c.used_up.new.work = c.in_ok-used_up.ensures.way c.if-not-branch.false in
+    over_left data_ canon (g.met.D.Deciding.is_canon c.args.decider.now) (plain_draft c.args.draft) c.requires.over.order
+    c.in_ok-entry.entry (returns-clause-solved g c)
+    (c.in_ok-entry.ensures.values data_.signature (c.in_ok-finished.ensures.values data_.signature way.is_of))
+    (c.in_ok-entry.ensures.leaves data_.signature (c.in_ok-finished.ensures.leaves data_.signature way.is_of))
+    (c.in_ok-entry.ensures.conditions data_.signature (c.in_ok-finished.ensures.conditions data_.signature way.is_of))

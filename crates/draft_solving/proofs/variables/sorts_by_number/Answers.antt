@@ -1,8 +1,8 @@
-use Rattle.std.proofs.Common.{arith, ap, ◌∙◌, sym, ◌≤◌, length, ◌-◌, List, Option, ℕ}
+use Rattle.std.proofs.Common.{arith, ap, ◌∙◌, sym}
 use Rattle.sort_terms.specs.SortedView.{term_in}
 use Rattle.sort_terms.specs.TermView.{term_of}
 use Rattle.sort_terms.specs.declared.terms.Term.{Term}
-use Rattle.draft_solving.specs.Variables.{leaf_sorts, sort_noted}
+use Rattle.draft_solving.specs.Variables.{sort_noted}
 use Rattle.draft_solving.proofs.VariableLemmas.{table_step}
 use Rattle.draft_solving.proofs.variables.sorts_by_number.Goals as goal
 
