@@ -7,7 +7,8 @@ from html import escape
 from typing import Callable, Dict, Iterable, Iterator, List, Optional, Sequence, Tuple
 
 from .answers import Entry, Label
-from .scenario import Scenario
+from .naming import named_line
+from .scenario import Moment, Names, Scenario
 
 LETTER = 7.3
 ROW, TOP_SPACE, AXIS, END, BELOW = 34, 46, 52, 18, 10
@@ -96,14 +97,14 @@ class Chart:
         self._note = note
         self._link = link
         last = [f"not {scenario.refused.label}"] if scenario.refused else []
-        self._layout = _layout(scenario, [*(change(it.step.label) for it in scenario.moments), *last])
+        self._layout = _layout(scenario, [*(change(it.short_label) for it in scenario.moments), *last])
 
     def svg(self) -> str:
         """The picture, whole."""
         layout = self._layout
         height = layout.legend + 18 + NOTE * sum(1 for it in (self._note, self._scenario.refusal) if it)
         width = max(layout.width, 28 + LETTER * len(short(self._scenario.refusal or "", 100)))
-        head = (f'<svg xmlns="http://www.w3.org/2000/svg" class="chart" role="img" width="{width:.0f}" '
+        head = (f'<svg xmlns="http://www.w3.org/2000/svg" class="chart" xml:space="preserve" role="img" width="{width:.0f}" '
                 f'height="{height:.0f}" viewBox="0 0 {width:.0f} {height:.0f}">')
         parts = [head, f"<title>{xml_text(self._title)}</title>", f"<style>{STYLE}</style>",
                  '<rect width="100%" height="100%" fill="#fff"/>', *self._frame(), *self._rows(), *self._legend(), "</svg>"]
@@ -131,21 +132,22 @@ class Chart:
         """The steps, and what is possible behind the last one."""
         scenario = self._scenario
         for count, moment in enumerate(scenario.moments):
-            yield from self._step(count, Label.read(moment.step.label))
-            yield from self._ends(count, moment.not_taken)
+            yield from self._step(count, moment)
+            yield from self._ends(count, moment.not_taken, moment.names)
         count = len(scenario.moments)
         if scenario.menu:
             is_fault = scenario.refusal or not scenario.menu.lines
             text = f"not {scenario.refused.label}" if scenario.refused else scenario.menu.head
             yield self._line_text(count, "fault" if is_fault else "note", text)
-            yield from self._ends(count, scenario.menu.entries)
+            yield from self._ends(count, scenario.menu.entries, scenario.names)
 
-    def _step(self, count: int, label: Label) -> Iterator[str]:
+    def _step(self, count: int, moment: Moment) -> Iterator[str]:
         """The arrow of a step, with its label."""
+        label = Label.read(moment.step.label)
         y, x = self._layout.row(count), self._layout.lanes[label.gate]
         kind = "hidden" if label.is_internal else "event"
-        text = self._change(label.text)
-        inner = f'<text x="{AXIS + 8}" y="{y - 5:.1f}">{xml_text(short(text))}</text>'
+        text = self._change(moment.label)
+        inner = f'<text x="{AXIS + 8}" y="{y - 5:.1f}">{xml_text(short(self._change(moment.short_label)))}</text>'
         number = f'<text class="number" x="{AXIS - 10}" y="{y + 4:.1f}" text-anchor="end">{count + 1}</text>'
         if self._link:
             inner = f'<a href="{self._link(count + 1)}">{inner}</a>'
@@ -157,11 +159,12 @@ class Chart:
             yield f'<path class="event" d="M{x - 10:.1f} {y - 5:.1f} L{x:.1f} {y:.1f} L{x - 10:.1f} {y + 5:.1f} Z"/>'
         yield f"{inner}</g>"
 
-    def _ends(self, count: int, entries: Iterable[Entry]) -> Iterator[str]:
+    def _ends(self, count: int, entries: Iterable[Entry], names: Names) -> Iterator[str]:
         """A grey end at each lane that has entries which were not taken, with their number where it is more than one."""
         by_gate: Dict[str, List[str]] = {}
         for entry in entries:
-            by_gate.setdefault(entry.label.gate, []).append(self._change(entry.line))
+            line = named_line(entry.line, names[int(entry.number) - 1]) if names else entry.line
+            by_gate.setdefault(entry.label.gate, []).append(self._change(line))
         y = self._layout.row(count) + BELOW
         for gate, lines in by_gate.items():
             x = self._layout.lanes[gate]

@@ -9,16 +9,11 @@ import re
 from dataclasses import dataclass, field
 from typing import Dict, Iterator, List, Sequence, Set, Tuple
 
+from .shipped import SHIPPED_BY_NAME
+
 TOKEN = re.compile(r"\(\*.*?\*\)|[A-Za-z0-9](?:_*[A-Za-z0-9])*|[#%&*+\-./<=>@\\^~{}]+|[^\s]", re.S)
 SECTIONS = {"formalsorts", "formalopns", "formaleqns", "sorts", "opns", "eqns", "sortnames", "opnnames", "using",
             "renamedby", "actualizedby"}
-SHIPPED = {
-    "boolean": """type Boolean is sorts Bool opns false, true : -> Bool not : Bool -> Bool
-        _and_, _or_, _xor_, _implies_, _iff_, _eq_, _ne_ : Bool, Bool -> Bool endtype""",
-    "naturalnumber": """library Boolean endlib
-        type NaturalNumber is Boolean sorts Nat opns 0 : -> Nat Succ : Nat -> Nat
-        _+_, _*_, _**_ : Nat, Nat -> Nat _eq_, _ne_, _lt_, _le_, _ge_, _gt_ : Nat, Nat -> Bool endtype""",
-}
 
 
 @dataclass(frozen=True)
@@ -52,11 +47,16 @@ def read_data_names(path: str, folder: str = ".") -> List[Operation]:
         for name in _libraries(tokens):
             if name.lower() not in seen and len(seen) < 64:
                 seen.add(name.lower())
-                waiting.append(SHIPPED.get(name.lower()) or _read(os.path.join(folder, f"{name}.lib")))
+                waiting.append(SHIPPED_BY_NAME.get(name.lower()) or _read(os.path.join(folder, f"{name}.lib")))
     found: Dict[Operation, None] = {}
     for name in types:
         found.update(dict.fromkeys(_operations(types, name, ())))
     return list(found)
+
+
+def operations_of(text: str) -> List[Operation]:
+    """The operations that the types of one text declare themselves, as a flat text has them all."""
+    return [operation for it in _types(_tokens(text)).values() for operation in it.operations]
 
 
 def _read(path: str) -> str:

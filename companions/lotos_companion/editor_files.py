@@ -1,11 +1,15 @@
-"""The files for Vim, Emacs and VS Code, made from the table of the reserved words."""
+"""The files for Vim, Neovim, Emacs and VS Code, made from the table of the reserved words."""
 from __future__ import annotations
 
 import json
 import re
-from typing import Dict
+from typing import Dict, Iterable, Sequence
 
+from .commands.files import make_files
+from .commands.makers import EDITOR_FILES
+from .editor_clients import EMACS_CLIENT, NEOVIM_CLIENT, VIM_CLIENT, VSCODE_CLIENT
 from .reserved_words import BEHAVIOURS, DEFINING, SIGNS, STRUCTURE, TYPES
+from .version import VERSION
 
 MADE = "Made by companions/make-editor-files from the table of the reserved words."
 # A name: what neither stands behind nor before another letter, digit or underscore.
@@ -115,7 +119,7 @@ EMACS = r''';;; lotos-mode.el --- LOTOS: colours, comments, and the places of re
 
 ;;;###autoload
 (add-to-list 'auto-mode-alist '("\\.lotos\\'" . lotos-mode))
-
+{client}
 (provide 'lotos-mode)
 ;;; lotos-mode.el ends here
 '''
@@ -133,10 +137,13 @@ def editor_files() -> Dict[str, str]:
         "vim/ftdetect/lotos.vim": _filled(VIM_DETECT, plain),
         "vim/ftplugin/lotos.vim": _filled(VIM_PLUGIN, plain),
         "vim/compiler/lotos.vim": _filled(VIM_COMPILER, plain),
-        "emacs/lotos-mode.el": _filled(EMACS, quoted),
+        "vim/plugin/lotos.vim": VIM_CLIENT.format(made=MADE),
+        "vim/plugin/lotos.lua": NEOVIM_CLIENT.format(made=MADE),
+        "emacs/lotos-mode.el": _filled(EMACS, {**quoted, "client": EMACS_CLIENT}),
         "vscode/package.json": _json(_package()),
         "vscode/language-configuration.json": _json(_language()),
         "vscode/syntaxes/lotos.tmLanguage.json": _json(_grammar()),
+        "vscode/extension.js": VSCODE_CLIENT.replace("MADE", MADE, 1),
     }
 
 
@@ -150,7 +157,7 @@ def _for_vim(sign: str) -> str:
     return re.sub(r"([\[\]*.~])", r"\\\1", sign)
 
 
-def _quoted(words) -> str:
+def _quoted(words: Iterable[str]) -> str:
     return " ".join(f'"{it}"' for it in words)
 
 
@@ -163,12 +170,19 @@ def _package() -> object:
     return {
         "name": "lotos",
         "displayName": "LOTOS",
-        "description": "Colours for specifications in LOTOS, and the places of refusals. " + MADE,
-        "version": "1.0.0",
+        "description": "Colours for specifications in LOTOS, and what lotos says of them. " + MADE,
+        "version": VERSION,
         "publisher": "lotos",
         "engines": {"vscode": "^1.60.0"},
         "categories": ["Programming Languages"],
+        "main": "./extension.js",
+        "activationEvents": ["onLanguage:lotos"],
         "contributes": {
+            "configuration": {"title": "LOTOS", "properties": {
+                "lotos.server": {"type": "string", "default": "lotos-language-server",
+                                 "description": "The language server: its name in the PATH, or its file."},
+                "lotos.words": {"type": "object", "default": {}, "description":
+                                "For the name of a specification, the words behind it: an order file, with and values."}}},
             "languages": [{"id": "lotos", "aliases": ["LOTOS"], "extensions": [".lotos"],
                            "configuration": "./language-configuration.json"}],
             "grammars": [{"language": "lotos", "scopeName": "source.lotos", "path": "./syntaxes/lotos.tmLanguage.json"}],
@@ -190,7 +204,7 @@ def _language() -> object:
 
 def _grammar() -> object:
     """The grammar of TextMate."""
-    def words(name: str, listed) -> Dict[str, str]:
+    def words(name: str, listed: Iterable[str]) -> Dict[str, str]:
         return {"name": name, "match": rf"(?i)(?<![A-Za-z0-9_])(?:{'|'.join(listed)})(?![A-Za-z0-9_])"}
 
     definition = {"match": rf"(?i)(?<![A-Za-z0-9_])({'|'.join(DEFINING)})\s+({NAME})",
@@ -214,3 +228,8 @@ def _grammar() -> object:
             {"name": "punctuation.definition.offer.lotos", "match": "[!?]"},
         ],
     }
+
+
+def main(given: Sequence[str]) -> int:
+    """Writes the files: the status."""
+    return make_files(EDITOR_FILES, given, "companions/editors", editor_files())

@@ -9,19 +9,8 @@ from typing import Callable, Sequence
 from . import output
 from .program import NoProgram, WrongWords
 
-# The statuses of the program that a companion has too.
-WRONG_WORDS, UNREAD, OUTPUT_FAILED, NO_ANSWER, BY_CTRL_C = 2, 3, 5, 70, 130
-
-
-def make_parser(name: str, what: str, usage: str, more: str = "") -> argparse.ArgumentParser:
-    """A reader of options, with those that all companions have."""
-    parser = argparse.ArgumentParser(prog=name, description=what, usage=usage, epilog=more, allow_abbrev=False,
-                                     formatter_class=argparse.RawDescriptionHelpFormatter)
-    parser.add_argument("--program", metavar="FILE", help="the program (else the variable LOTOS, else ./lotos of the "
-                        "repository that this companion stands in, else lotos in the PATH)")
-    parser.add_argument("--numbers", action="store_true", help="decimal numbers for numerals: 2 for Succ(Succ(0))")
-    parser.add_argument("words", nargs="*", help=argparse.SUPPRESS)
-    return parser
+# The statuses of the companions: the answer is no, or one of those that the program has too.
+ANSWER_IS_NO, WRONG_WORDS, UNREAD, OUTPUT_FAILED, NO_ANSWER, BY_CTRL_C = 1, 2, 3, 5, 70, 130
 
 
 def read_line(parser: argparse.ArgumentParser, given: Sequence[str]) -> argparse.Namespace:

@@ -15,7 +15,7 @@ def visible(text: str) -> str:
     return CONTROL.sub(_escaped, text)
 
 
-def _escaped(found: re.Match) -> str:
+def _escaped(found: re.Match[str]) -> str:
     """A character as an escape; a byte that was no UTF-8 as that byte."""
     number = ord(found[0])
     if 0xdc80 <= number <= 0xdcff:
@@ -35,11 +35,16 @@ def has_output() -> bool:
 
 
 def write(text: str) -> None:
-    """Writes a text. (The stream of Python may write a part alone where it is not buffered.)"""
+    """Writes a text."""
+    write_bytes(text.encode("utf-8", "surrogateescape"))
+
+
+def write_bytes(data: bytes) -> None:
+    """Writes bytes. (The stream of Python may write a part alone where it is not buffered.)"""
     global _output
     if _output is None:
         _output = open(sys.stdout.fileno(), "wb", closefd=False)
-    _output.write(text.encode("utf-8", "surrogateescape"))
+    _output.write(data)
 
 
 def flush() -> None:

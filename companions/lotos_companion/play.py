@@ -2,14 +2,21 @@
 from __future__ import annotations
 
 import re
-from typing import Iterator, List, Optional, Sequence
+from typing import Iterator, List, Optional, Sequence, Tuple
 
 from .answers import Answer, Menu
 from .program import Words
 from .session import Session
+from .signature import Signature, read_signature
 from .traces import Step, read_trace
 
 STEP_LINE = re.compile(r"step +([^ ]+) *(.*)")
+
+
+def read_step_line(line: str) -> Tuple[str, str]:
+    """The number and the values of a line that takes a step."""
+    found = STEP_LINE.fullmatch(line)
+    return (found[1], found[2]) if found else ("0", "")
 
 
 class Parted(Exception):
@@ -22,15 +29,35 @@ class Parted(Exception):
 
 
 class Play:
-    """A session, the steps that led to its state, and those that were undone, the last one last."""
+    """A session, the name of its specification, the steps that led to its state, and those that were undone, the last one
+    last."""
 
     def __init__(self, program: str, words: Words):
         self._program = program
         self._words = words
         self._session: Optional[Session] = None
+        self._signature: Optional[Signature] = None
+        self.name = ""
         self.done: List[Step] = []
         self.undone: List[Step] = []
         self.menu = Menu("events 0", ())
+
+    @property
+    def program(self) -> str:
+        """The program."""
+        return self._program
+
+    @property
+    def words(self) -> Words:
+        """The files and the values that it was begun with."""
+        return self._words
+
+    @property
+    def signature(self) -> Signature:
+        """The sorts and operations of its data, which are read when somebody asks for them first."""
+        if self._signature is None:
+            self._signature = read_signature(self._program, self._words)
+        return self._signature
 
     @property
     def is_open(self) -> bool:
@@ -41,7 +68,9 @@ class Play:
         """Begins in the first state. `Ended` where the specification is not accepted."""
         self.kill()
         self._session = Session(self._program, self._words)
+        self._signature = None
         answer = self._session.opening()
+        self.name = answer.said[0][len("accepted "):]
         self.done, self.undone = [], []
         self._see(answer)
         return answer
@@ -110,6 +139,11 @@ class Play:
         if session:
             session.kill()
 
+    def stop(self) -> None:
+        """Ends the program at once; whoever waits for its answer is told by `Ended`."""
+        if self._session:
+            self._session.stop()
+
     def _follow(self, line: str, answer: Answer) -> None:
         """Keeps the account of what a line did."""
         if answer.label is not None:
@@ -123,8 +157,8 @@ class Play:
 
     def _add(self, line: str, label: str) -> None:
         """Adds a step that was taken: the one that was undone last, or another one, behind which nothing is undone."""
-        found = STEP_LINE.fullmatch(line)
-        step = Step(found[1], found[2], label) if found else Step("0", "", label)
+        number, values = read_step_line(line)
+        step = Step(number, values, label)
         if self.undone and self.undone[-1].line == step.line:
             self.undone.pop()
         else:

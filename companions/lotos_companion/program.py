@@ -68,6 +68,8 @@ def _runnable(named: str) -> str:
 
 
 def _wants_build(path: str) -> bool:
-    """Whether this is the launcher of a repository where no program is built: it would read all lines before it answers."""
-    crate = os.path.join(os.path.dirname(os.path.realpath(path)), "crates", "lotos_main")
-    return os.path.isdir(crate) and not os.access(os.path.join(crate, "out", "lotos_main"), os.X_OK)
+    """Whether this is the launcher of a repository where no program stands: it would build one before it answers."""
+    root = os.path.dirname(os.path.realpath(path))
+    programs = [os.path.join(root, place, "lotos_main") for place in ("crates/lotos_main/out", "build/first_look")]
+    is_launcher = os.path.isdir(os.path.join(root, "crates", "lotos_main"))
+    return is_launcher and not any(os.access(it, os.X_OK) for it in programs)

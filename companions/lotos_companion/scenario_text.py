@@ -1,18 +1,19 @@
 """A scenario as lines: each step with the menu that it was chosen from, and where a changed specification parts from it."""
 from __future__ import annotations
 
-from typing import Iterator, Optional
+from typing import Iterator, Optional, Union
 
 from .answers import Menu
-from .scenario import Scenario
+from .naming import named_lines
+from .scenario import Moment, Names, Scenario
 from .traces import Step
 
 
-def menu_lines(menu: Menu, step: Optional[Step]) -> Iterator[str]:
-    """The entries of a menu, with a mark at the one that a step takes, and its values behind it."""
+def menu_lines(menu: Menu, step: Optional[Step], names: Names = ()) -> Iterator[str]:
+    """The entries of a menu with the names of hidden ones, with a mark at the one that a step takes, and its values behind it."""
     if not menu.lines:
         yield f"    {menu.head}"
-    for line in menu.lines:
+    for line in named_lines(menu.lines, names) if names else menu.lines:
         is_taken = step is not None and line.startswith(f"{step.number}: ")
         values = f"  <- {step.values}" if is_taken and step and step.values else ""
         yield f"  {'>' if is_taken else ' '} {line}{values}"
@@ -24,9 +25,9 @@ def scenario_lines(scenario: Scenario, with_states: bool) -> Iterator[str]:
         if with_states and moment.state is not None:
             yield f"    at {moment.state}"
         values = f"  <- {moment.step.values}" if moment.step.values and not moment.menu else ""
-        yield f"step {count}: {moment.step.label}{values}"
+        yield f"step {count}: {moment.label}{values}"
         if moment.menu:
-            yield from menu_lines(moment.menu, moment.step)
+            yield from menu_lines(moment.menu, moment.step, moment.names)
     if with_states and scenario.state is not None:
         yield f"    at {scenario.state}"
     if scenario.refused:
@@ -34,7 +35,7 @@ def scenario_lines(scenario: Scenario, with_states: bool) -> Iterator[str]:
     elif scenario.menu and not scenario.refusal:
         yield "behind the last step"
     if scenario.menu:
-        yield from menu_lines(scenario.menu, scenario.refused)
+        yield from menu_lines(scenario.menu, scenario.refused, scenario.names)
     if scenario.refusal:
         yield scenario.refusal
 
@@ -43,11 +44,10 @@ def _side(name: str, scenario: Scenario, place: int, step: Optional[Step]) -> It
     """What one specification has before a step: the menu and the state."""
     yield f"{name}"
     is_behind = place == len(scenario.moments)
-    menu = scenario.menu if is_behind else scenario.moments[place].menu
-    state = scenario.state if is_behind else scenario.moments[place].state
-    if menu:
-        yield from menu_lines(menu, step)
-    yield f"    at {state}"
+    there: Union[Scenario, Moment] = scenario if is_behind else scenario.moments[place]
+    if there.menu:
+        yield from menu_lines(there.menu, step, there.names)
+    yield f"    at {there.state}"
 
 
 def difference_lines(old_name: str, old: Scenario, new_name: str, new: Scenario) -> Iterator[str]:
@@ -66,10 +66,10 @@ def difference_lines(old_name: str, old: Scenario, new_name: str, new: Scenario)
     if parts is None:
         yield f"all {count} steps fit" + (" and all menus are the same" if differs is None else "")
     if differs is not None:
-        yield f"the menus differ first at step {differs + 1} of {count}: {steps[differs].label}" if differs < count \
+        yield f"the menus differ first at step {differs + 1} of {count}: {old.moments[differs].label}" if differs < count \
             else "the menus differ behind the last step"
         yield from both(differs)
     if parts is not None:
-        yield f"parts at step {parts + 1} of {count}: {steps[parts].label}" if new.refused else "parts before the first step"
+        yield f"parts at step {parts + 1} of {count}: {old.moments[parts].label}" if new.refused else "parts before the first step"
         yield from both(parts)
         yield str(new.refusal)

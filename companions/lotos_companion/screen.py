@@ -12,14 +12,15 @@ from .changes import changed_parts
 
 # The colours of the parts of a line, by what the line is.
 GREY, RED, GREEN, YELLOW, BLUE, BOLD = "90", "31", "32", "33", "36", "1"
-LINES: Tuple[Tuple[re.Pattern, Tuple[str, ...]], ...] = (
+LINES: Tuple[Tuple[re.Pattern[str], Tuple[str, ...]], ...] = (
     (re.compile(r"(refused \d{3} [A-Z]\w+.*|cannot read .*|usage: .*|input failed|input too long)"), (RED,)),
     (re.compile(r"(accepted )(.*)"), (GREEN, BOLD)),
     (re.compile(r"(data: .*)"), (GREY,)),
     (re.compile(r"(events \d+)"), (BOLD,)),
+    (re.compile(r"(did )(i)( \(.*\))"), (GREEN, BOLD, "")),
     (re.compile(r"(did )(.*)"), (GREEN, BOLD)),
     (re.compile(r"(undone|replayed \d+|saved .*|equal|different|nothing to undo)"), (GREEN,)),
-    (re.compile(r"(\d+: )(i)( for .*| if .*)?"), (BLUE, YELLOW, GREY)),
+    (re.compile(r"(\d+: )(i)( \(.*?\))??( for .*| if .*)?"), (BLUE, YELLOW, "", GREY)),
     (re.compile(r"(\d+: )(.*?)( for \$1:.*)?"), (BLUE, "", GREY)),
     (re.compile(r"(lotos-trace .*|at .*)"), (GREY,)),
     (re.compile(r"((?:\d+)(?: .*)? => )(.*)"), (GREY, "")),
@@ -42,6 +43,7 @@ class Screen:
     def __init__(self, colour: bool):
         self.colour = colour
         self.is_terminal = sys.stdout.isatty()
+        self._has_progress = False
         self.change: Callable[[str], str] = lambda line: line
 
     @property
@@ -65,17 +67,27 @@ class Screen:
         self._write(indent + "".join(parts))
         output.flush()
 
-    def own(self, line: str) -> None:
+    def own(self, line: str, stands_out: bool = False) -> None:
         """Writes a line that is the companion's own."""
         line = self._clean(f"# {line}")
-        self._write(self._paint(GREY, line))
+        self._write(self._paint(BOLD if stands_out else GREY, line))
         output.flush()
+
+    def progress(self, line: str) -> None:
+        """Shows for a while, on a terminal alone, how far something is: in the line where the next one is written."""
+        if self.is_terminal and os.environ.get("TERM", "dumb") != "dumb":
+            output.write(f"\r# {self._clean(line)}\x1b[K\r")
+            output.flush()
+            self._has_progress = True
 
     def plain(self, line: str) -> None:
         """Writes a line as it is."""
         self._write(self._clean(line))
 
     def _write(self, line: str) -> None:
+        if self._has_progress:
+            output.write("\r\x1b[K")
+            self._has_progress = False
         output.write(line + "\n")
 
     def _clean(self, line: str) -> str:

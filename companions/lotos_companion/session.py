@@ -77,6 +77,10 @@ class Session:
         self._process.kill()
         self.close()
 
+    def stop(self) -> None:
+        """Ends the program at once; its answer ends there, and who waits for it gets `Ended`."""
+        self._process.kill()
+
     def _finish(self, line: str) -> Tuple[str, ...]:
         """Says the last line; what is written from there to the end."""
         self._write(line)

@@ -40,7 +40,7 @@ class Look:
 def terminal_picture(lines: Sequence[str], columns: int, title: str) -> str:
     """The picture, whole."""
     width, height = 2 * MARGIN + columns * COLUMN, 2 * MARGIN + len(lines) * LINE
-    parts = [f'<svg xmlns="http://www.w3.org/2000/svg" role="img" width="{width:.0f}" height="{height}" '
+    parts = [f'<svg xmlns="http://www.w3.org/2000/svg" xml:space="preserve" role="img" width="{width:.0f}" height="{height}" '
              f'viewBox="0 0 {width:.0f} {height}">', f"<title>{xml_text(title)}</title>",
              '<style>text { font: 14px ui-monospace, "DejaVu Sans Mono", Menlo, Consolas, monospace; white-space: pre; } '
              '.bold { font-weight: bold; }</style>',

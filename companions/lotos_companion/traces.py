@@ -52,7 +52,7 @@ def read_trace(lines: Sequence[str]) -> Trace:
     steps: List[Step] = []
     for count, line in enumerate(step_lines):
         place = 2 + count * (2 if named else 1)
-        step = _read_step(line, place)
+        step = read_step(line, place)
         if named:
             step = _with_state(step, state_lines[count] if count < len(state_lines) else "", place + 1)
         steps.append(step)
@@ -65,7 +65,8 @@ def read_trace_text(text: str) -> Trace:
     return read_trace(lines[:-1] if lines[-1] == "" else lines)
 
 
-def _read_step(line: str, place: int) -> Step:
+def read_step(line: str, place: int) -> Step:
+    """A step from its line, which has this number in its text."""
     taken, arrow, label = line.partition(" => ")
     number, _, values = taken.partition(" ")
     if not arrow or not NUMBER.fullmatch(number) or "\r" in line:

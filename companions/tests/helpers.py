@@ -55,13 +55,9 @@ for line in sys.stdin:
 '''
 
 
-def find_tool(what, *names):
-    """The first of these tools that is there; where none is, it is said that `what` is left out."""
-    for name in names:
-        if shutil.which(name):
-            return shutil.which(name)
-    print(f"left out: {what}, since there is no {names[0]}", file=sys.stderr)
-    return None
+def find_tool(*names):
+    """The first of these tools that is there, or nothing."""
+    return next(filter(None, map(shutil.which, names)), None)
 
 
 class FolderTest(unittest.TestCase):

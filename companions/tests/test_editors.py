@@ -1,4 +1,4 @@
-"""The files for editors, the manual page and the completions: they say what the program and the pages say."""
+"""The files for editors: they say what the program says."""
 import json
 import os
 import re
@@ -9,9 +9,7 @@ from .helpers import COMPANIONS, TOP, FolderTest, find_tool, read
 from lotos_companion import reserved_words
 from lotos_companion.editor_files import editor_files
 
-VIM_PATH = find_tool("colours in Vim", "vim")
-GROFF = find_tool("the form of the manual page", "groff")
-ZSH = find_tool("the form of the completion for zsh", "zsh")
+VIM_PATH = find_tool("vim")
 GRAMMAR = f"{COMPANIONS}/editors/vscode/syntaxes/lotos.tmLanguage.json"
 REFUSALS = ("refused 301 UnknownGate at bad file.lotos:1:36 g",
             "refused 602 Unjoined at c.lotos:14:7 with c.lotos:13:7: pred($1 - 0) gives $1 - Succ(0) and pred($1)",
@@ -109,13 +107,13 @@ class Editors(FolderTest):
         for path in (grammar["path"], language["configuration"]):
             self.assertTrue(os.path.exists(f"{COMPANIONS}/editors/vscode/{path}"))
 
-    @unittest.skipUnless(VIM_PATH, "there is no vim")
+    @unittest.skipUnless(VIM_PATH, "colours in Vim, since there is no vim")
     def test_vim(self):
         self.write("try.vim", VIM.format(editors=f"{COMPANIONS}/editors"))
         self.write("refusals", "\n".join(["accepted S", *REFUSALS]))
         version = subprocess.run(["vim", "--version"], stdout=subprocess.PIPE, check=False).stdout.decode()
         if "+syntax" not in version or "+quickfix" not in version:
-            self.skipTest("a vim without colours")
+            self.skipTest("colours in Vim, since this vim has none")
         done = subprocess.run(["vim", "-es", "-N", "-u", "NONE", "-i", "NONE", "-S", "try.vim"], stdin=subprocess.DEVNULL,
                               stdout=subprocess.DEVNULL, stderr=subprocess.DEVNULL, timeout=60, check=False)
         names = read("names").strip("\n") + "\n"
@@ -123,56 +121,3 @@ class Editors(FolderTest):
         self.assertEqual((done.returncode, said), (0, COLOURS))
         places = [it for it in names.split("\n") if re.match(r"\d{3} ", it)]
         self.assertEqual(places, ["301 bad file.lotos 1 36", "602 c.lotos 14 7", "104 a.lotos 3 4"])
-
-
-class ManualPage(unittest.TestCase):
-    """The page `lotos.1`."""
-
-    def test_it_has_the_words_statuses_and_lines_of_the_program(self):
-        page = re.sub(r"\\f[A-Z]|^\.[A-Z]+ ?|\"", "", read(f"{COMPANIONS}/lotos.1"), flags=re.M)
-        usage = read(f"{TOP}/docs/USAGE.md")
-        for name in re.findall(r"^\| `(\w+)", usage, re.M):
-            self.assertRegex(page, rf"(?m)^{name}\b")
-        statuses = re.findall(r"^\| (\d+) \|", usage, re.M)
-        self.assertEqual(re.findall(r"(?m)^(\d+)$", page), statuses)
-
-    @unittest.skipUnless(GROFF, "there is no groff")
-    def test_its_form(self):
-        done = subprocess.run(["groff", "-man", "-z", f"{COMPANIONS}/lotos.1"], stderr=subprocess.PIPE, check=False)
-        self.assertEqual((done.returncode, done.stderr), (0, b""))
-
-
-class Completions(FolderTest):
-    """The completions of bash and zsh."""
-
-    def _completed(self, *words):
-        """What bash offers for the last of these words."""
-        function = {"lotos": "_lotos", "lotos-shell": "_lotos_shell", "lotos-trace": "_lotos_trace"}[words[0]]
-        script = (f'source {COMPANIONS}/completions/lotos.bash; COMP_WORDS=("$@"); COMP_CWORD=$(($# - 1)); {function}; '
-                  'printf "%s\\n" "${COMPREPLY[@]}"')
-        said = subprocess.run(["bash", "-c", script, "bash", *words], stdout=subprocess.PIPE, check=True).stdout.decode()
-        return sorted(said.split("\n")[:-1])
-
-    def test_bash(self):
-        os.mkdir("cofolder")
-        for words, wanted in ((("lotos", ""), ["bisim", "build", "check", "demo", "flatten", "induct", "install", "run"]),
-                              (("lotos", "r"), ["run"]),
-                              (("lotos", "run", "co"), ["cofolder", "countdown.lotos"]),
-                              (("lotos", "run", "countdown.lotos", "co"), ["cofolder", "countdown.lotos", "countdown.order"]),
-                              (("lotos", "flatten", "co"), ["cofolder", "countdown.lotos"]),
-                              (("lotos", "flatten", "countdown.lotos", "co"), ["cofolder", "countdown.lotos", "countdown.order"]),
-                              (("lotos", "run", "car_park.lotos", "w"), ["with"]),
-                              (("lotos", "run", "car_park.lotos", "with", "S"), [""]),
-                              (("lotos-shell", "--n"), ["--numbers"]),
-                              (("lotos-shell", "--color", "a"), ["always", "auto"]),
-                              (("lotos-shell", "--color", "auto", "inr"), ["inres.lotos"]),
-                              (("lotos-trace", "--numbers", "s"), ["show"]),
-                              (("lotos-trace", "show", "inr"), ["inres.trace"]),
-                              (("lotos-trace", "show", "inres.trace", "inr"), ["inres.lotos"]),
-                              (("lotos-trace", "show", "inres.trace", "inres.lotos", "wi"), ["with"])):
-            with self.subTest(words):
-                self.assertEqual(self._completed(*words), wanted)
-
-    @unittest.skipUnless(ZSH, "there is no zsh")
-    def test_the_form_of_that_for_zsh(self):
-        subprocess.run(["zsh", "-n", f"{COMPANIONS}/completions/_lotos"], check=True)

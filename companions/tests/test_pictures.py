@@ -1,20 +1,23 @@
 """Pictures and pages of scenarios: their parts are counted, on all traces of the examples."""
 import html.parser
+import json
 import os
 import re
 import subprocess
 import sys
 import xml.etree.ElementTree as tree
 
-from .helpers import COMPANIONS, EXAMPLES, TOP, FolderTest, find_tool, read
+from .helpers import COMPANIONS, EXAMPLES, PROGRAM, TOP, FolderTest, find_tool, read
 from lotos_companion.answers import Entry, Menu
 from lotos_companion.chart import Chart, gates_of, short
 from lotos_companion.scenario import Moment, Scenario
 from lotos_companion.traces import Step, read_trace_text
 
-BROWSER = find_tool("a page in a browser", "chromium", "google-chrome", "chromium-browser")
+BROWSER = find_tool("chromium", "google-chrome", "chromium-browser")
 SPACE = "{http://www.w3.org/2000/svg}"
-ALONE = {"meta", "br"}
+# The traces of which pages are looked at too.
+PAGES = ("alternating_bit.trace", "car_park.trace", "dispenser.before.trace", "lossy_line.trace")
+ALONE = {"meta", "br", "link"}
 
 
 class WellFormed(html.parser.HTMLParser):
@@ -60,14 +63,15 @@ class Pictures(FolderTest):
         for name, words, labels in traces():
             with self.subTest(name):
                 fits = 1 if name == "dispenser.before.trace" else 0
-                status, output, said = self.run_companion("lotos-trace", "chart", name, *words)
+                status, output, said = self.run_companion("lotos-trace", "--no-names", "chart", name, *words)
                 self.assertEqual((status, said), (fits, ""))
                 picture = tree.fromstring(output)
                 if not fits:
                     self._has_all(picture, labels)
-                status, output, said = self.run_companion("lotos-trace", "page", name, *words)
-                self.assertEqual((status, said), (fits, ""))
-                self._is_page(output, labels if not fits else labels[:1])
+                if name in PAGES:
+                    status, output, said = self.run_companion("lotos-trace", "page", name, *words)
+                    self.assertEqual((status, said), (fits, ""))
+                    self._is_page(output, labels if not fits else labels[:1])
 
     def _has_all(self, picture, labels):
         """An arrow for each event, a circle for each hidden one, and the label of each."""
@@ -80,17 +84,44 @@ class Pictures(FolderTest):
         self.assertEqual(count(picture, "lane", "line"), len(picture.findall(f"{SPACE}text[@class='name']")) - 1)
 
     def _is_page(self, text, labels):
-        """A whole page with a part for each step."""
+        """A whole page with a place for each step, which may ask for nothing."""
         page = WellFormed()
         page.feed(text)
         self.assertEqual(page.open, [])
-        steps = [it for it in page.ids if it.startswith("step-")]
-        self.assertEqual(steps, [f"step-{it + 1}" for it in range(len(labels))])
-        for label in labels:
-            self.assertIn(label, page.text)
-        self.assertTrue(any(it.startswith("lotos run ") and "\nreplay " in it for it in page.text))
-        self.assertNotIn("\ufffd", text)
+        scenario = json.loads(re.search(r'<script type="application/json" id="scenario">(.*?)</script>', text)[1])
+        self.assertEqual([it["label"] for it in scenario["places"]], ["", *labels])
+        self.assertEqual(len(scenario["moments"]), len(labels) + 1)
+        self.assertEqual([it.split(" ")[0] for it in scenario["replay"]], ["lotos", "replay"])
+        self.assertEqual(set(re.findall(r'(?:src|href)="([^"]*)"', text)), {"data:,", "#menu-0"})
+        self.assertRegex(text, r"content=\"default-src 'none'; script-src 'sha256-[^' ]*'; style-src 'sha256-[^' ]*';")
+        self.assertNotIn("\ufffd", text.replace('"\\ufffd"', ""))
         self.assertNotIn("http://", text.replace("http://www.w3.org/2000/svg", ""))
+
+    def test_charts_of_components(self):
+        for name, words, labels in traces():
+            if name in ("two_phase_commit.trace", "car_park.trace"):
+                with self.subTest(name):
+                    status, output, said = self.run_companion("lotos-trace", "chart", "--components", name, *words)
+                    self.assertEqual((status, said), (0, ""))
+                    picture = tree.fromstring(output)
+                    self.assertEqual(len(picture.findall(f".//{SPACE}g[@class='event']")), len(labels))
+                    hidden = [it for it in picture.iter(f"{SPACE}text") if it.get("class") == "step-label hidden"]
+                    self.assertEqual(len(hidden), labels.count("i"))
+
+    def test_a_chart_as_png(self):
+        if not find_tool("rsvg-convert", "chromium"):
+            self.skipTest("a chart as PNG, since there is no rsvg-convert")
+        self.write("t.trace", "lotos-trace 1\n1 true => give !true\n")
+        path = os.path.join(self.folder, "chart.png")
+        with open(path, "wb") as file:
+            subprocess.run([sys.executable, f"{COMPANIONS}/lotos-trace", "chart", "--png", "t.trace", "lossy_line.lotos"], stdout=file,
+                           check=True, timeout=120, env={**os.environ, "LOTOS": PROGRAM})
+        with open(path, "rb") as file:
+            self.assertEqual(file.read(8), b"\x89PNG\r\n\x1a\n")
+        done = subprocess.run([sys.executable, f"{COMPANIONS}/lotos-trace", "chart", "--png", "t.trace"], stderr=subprocess.PIPE,
+                              env={"PATH": "/nowhere"}, check=False)
+        self.assertEqual((done.returncode, done.stderr.decode()),
+                         (70, "lotos-trace: a PNG needs rsvg-convert (of Debian's package librsvg2-bin) or chromium\n"))
 
     def test_grey_ends(self):
         menu = Menu("events 5", ("1: a", "2: b !x", "3: b !y", "4: i", "5: exit"))
@@ -130,7 +161,7 @@ class Pictures(FolderTest):
 
     def test_in_a_browser(self):
         if not BROWSER:
-            self.skipTest("there is no browser")
+            self.skipTest("a page in a browser, since there is none")
         _, output, _ = self.run_companion("lotos-trace", "page", "alternating_bit.trace", "alternating_bit.lotos")
         path = self.write("page.html", output)
         try:
@@ -139,5 +170,5 @@ class Pictures(FolderTest):
                                   stdout=subprocess.PIPE, stderr=subprocess.DEVNULL, timeout=120, check=True)
         except (OSError, subprocess.SubprocessError) as fault:
             print(f"left out: a page in a browser: {fault}", file=sys.stderr)
-            self.skipTest("the browser does not run")
-        self.assertTrue(re.search(r'<details id="step-7" open', done.stdout.decode()))
+            self.skipTest("a page in a browser, since it does not run")
+        self.assertIn(">7 of 14 steps<", done.stdout.decode())

@@ -134,7 +134,7 @@ class Faults(FolderTest):
                                       env={**os.environ, "LOTOS": PROGRAM})
                 self.assertEqual((done.returncode, done.stderr), (wanted, b""))
 
-    @unittest.skipUnless(os.path.exists("/dev/full"), "no /dev/full")
+    @unittest.skipUnless(os.path.exists("/dev/full"), "a full output, since there is no /dev/full")
     def test_a_full_output(self):
         with open("/dev/full", "wb") as full:
             done = subprocess.run([f"{COMPANIONS}/lotos-shell", "buffer.lotos"], input=b"", stdout=full, check=False,

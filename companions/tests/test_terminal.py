@@ -7,28 +7,31 @@ import tempfile
 import time
 import unittest
 
-from .helpers import COMPANIONS, PROGRAM, FolderTest, find_tool
+from .helpers import COMPANIONS, PROGRAM, FolderTest, find_tool, read
 
-TMUX = find_tool("the shell in a terminal", "tmux")
+TMUX = find_tool("tmux")
 SECONDS = 60
 
 
-@unittest.skipUnless(TMUX, "there is no tmux")
+@unittest.skipUnless(TMUX, "the shell in a terminal, since there is no tmux")
 class InATerminal(FolderTest):
     """A shell at a prompt."""
 
-    def start(self, words, program=PROGRAM, columns=80, lines=24):
+    def start(self, words, program=PROGRAM, columns=80, lines=24, more=""):
         """Starts the shell in a terminal of its own. (The name of a socket has to be short.)"""
         self.socket_folder = tempfile.mkdtemp(dir="/tmp")
         self.addCleanup(shutil.rmtree, self.socket_folder, True)
         try:
             self.tmux("new-session", "-d", "-x", str(columns), "-y", str(lines),
-                      f"env LOTOS='{program}' XDG_STATE_HOME='{self.folder}/state' TERM=xterm LC_ALL=C.UTF-8 "
+                      f"env LOTOS='{program}' XDG_STATE_HOME='{self.folder}/state' TERM=xterm LC_ALL=C.UTF-8 {more} "
                       f"{COMPANIONS}/lotos-shell {words}; echo status $?; exec sleep 600")
         except subprocess.CalledProcessError:
-            print("left out: the shell in a terminal, since tmux gives none", file=sys.stderr)
-            self.skipTest("tmux gives no terminal")
-        self.addCleanup(self.tmux, "kill-server")
+            self.skipTest("the shell in a terminal, since tmux gives none")
+        self.addCleanup(self.stop, self.socket_folder)
+
+    def stop(self, folder=None):
+        """Ends the terminal."""
+        subprocess.run([TMUX, "-S", f"{folder or self.socket_folder}/s", "kill-server"], stderr=subprocess.DEVNULL, check=False)
 
     def tmux(self, *words):
         """A command of the tmux server of this test."""
@@ -74,14 +77,17 @@ class InATerminal(FolderTest):
         self.wait("lotos 0>")
         self.type("-l", "ste")
         self.type("Tab")
+        self.wait("> step")
         self.type("-l", "1 Suc")
         self.type("Tab")
         self.wait("> step 1 Succ(")
         self.type("-l", "0)")
         self.type("Enter")
-        self.wait("did put !Succ(0)")
+        self.wait("did put !1")
         self.type("-l", "replay alternating_bit.t")
-        self.type("Tab", "Enter")
+        self.type("Tab")
+        self.wait("alternating_bit.trace")
+        self.type("Enter")
         self.wait("replayed 14")
         self.wait("lotos 14>")
 
@@ -97,12 +103,12 @@ class InATerminal(FolderTest):
         self.type("C-c")
         self.wait("# the session goes on behind step 1")
         self.type_line("back 1")
-        self.wait("lotos 0>", 2)
+        self.wait("lotos 0/1>")
         self.type("-l", "half a line")
         self.wait("half a line")
         time.sleep(0.5)
         self.type("C-c")
-        self.wait("lotos 0>", 3)
+        self.wait("lotos 0/1>", 2)
 
     def test_a_program_that_dies(self):
         self.start("s.lotos", self.stand_in())
@@ -134,8 +140,10 @@ class InATerminal(FolderTest):
         self.write("many.lotos", f"specification Many [{gates}] : noexit behaviour {choices} endspec")
         self.start("many.lotos", columns=24, lines=20)
         self.wait("lotos 0>")
-        screen = self.wait("# and 45 more: menu")
-        self.assertIn("15: gate_number_14", screen)
+        screen = self.wait("more: menu")
+        left = int(screen.partition("# and ")[2].partition(" more")[0])  # A terminal may get its height after the first menu.
+        self.assertIn(left, (41, 45))
+        self.assertIn(f"{60 - left}: gate_number_{59 - left}", screen)
         self.type_line("find _59")
         self.wait("60: gate_number_59")
         self.wait("# 1 of 60")
@@ -145,3 +153,115 @@ class InATerminal(FolderTest):
         self.wait("lotos 0>")
         self.type_line("normal bytes")
         self.wait("\\xff \\x1b[31m")
+
+    def test_names_and_numbers_are_on_and_one_switch_turns_them_off(self):
+        self.start("alternating_bit.lotos")
+        self.wait("lotos 0>")
+        self.type_line("1 2")
+        self.wait("1: i (send !2 !false, hidden in Alternating_Bit)")
+        self.type("C-d")
+        self.wait("status 0")
+        self.stop()
+        self.start("--plain alternating_bit.lotos")
+        self.wait("lotos 0>")
+        self.type_line("1 2")
+        self.wait("refused 801 BadCommand")
+        self.type_line("step 1 Succ(0)")
+        self.wait("did put !Succ(0)")
+        self.wait("1: i\n")
+
+    def test_several_lines_that_are_pasted(self):
+        self.start("alternating_bit.lotos", lines=40)
+        self.wait("lotos 0>")
+        self.tmux("set-buffer", "step put 1\nauto\n3\n2\n")
+        self.tmux("paste-buffer", "-p")
+        self.wait("auto")
+        self.type("Enter")
+        self.wait("did get !1")
+        self.wait("lotos 4>")
+        self.type("Up", "Up", "Up", "Up", "Enter")
+        self.wait("step put 1", 2)
+        self.assertEqual(read("state/lotos-shell/history").split("\n")[:4], ["step put 1", "auto", "3", "2"])
+
+    def test_lines_that_wait_are_thrown_away_by_ctrl_c(self):
+        self.start("s.lotos", self.stand_in())
+        self.wait("lotos 0>")
+        self.tmux("set-buffer", "step 1\nnormal hang\nstep 1\nstep 1\n")
+        self.tmux("paste-buffer", "-p")
+        self.type("Enter")
+        end = time.monotonic() + SECONDS
+        while not os.path.exists("hanging") and time.monotonic() < end:
+            time.sleep(0.05)
+        self.type("C-c")
+        self.wait("# the session goes on behind step 1")
+        self.type_line("show")
+        self.wait("refused 801")
+        self.assertNotIn("lotos 2>", self.wait("lotos 1>", 2))
+
+    def test_no_colours_where_they_are_not_wanted(self):
+        for more, words in (("NO_COLOR=1", ""), ("", "--color never")):
+            with self.subTest(more):
+                self.start(f"{words} alternating_bit.lotos", more=more)
+                self.wait("lotos 0>")
+                self.type_line("1 1")
+                screen = self.wait("lotos 1>", 1, ("-e",))
+                self.assertNotRegex(screen, "\x1b\\[[0-9;]*[34]?[0-7]m")
+                self.stop()
+
+    def test_a_search_tells_how_far_it_is_and_ends_by_ctrl_c(self):
+        self.start("sliding_window.lotos with 2", columns=110)
+        self.wait("lotos 0>")
+        self.type_line("until nowhere")
+        self.wait(" steps far")
+        self.type("C-c")
+        self.wait("# found no way: stopped by Ctrl-C (")
+        self.wait("lotos 0>", 2)
+        self.assertNotIn(" steps far", self.wait("lotos 0>"))
+        self.type_line("until put !2")
+        self.wait("did put !2")
+        self.wait("lotos 1>")
+
+    def test_values_that_fit_and_the_marks_are_completed(self):
+        self.start("entries.lotos", lines=30)
+        self.wait("lotos 0>")
+        self.type("-l", "1 ")
+        self.type("Tab")
+        self.wait("0, 1")
+        self.wait("fits", 3)
+        self.type("C-c")
+        self.wait("lotos 0>", 2)
+        self.type_line("mark beginning")
+        self.wait("# beginning is 1:0")
+        self.type("-l", "goto b")
+        self.type("Tab")
+        self.wait("goto beginning")
+
+    def test_a_menu_of_thousands_of_entries(self):
+        parts = ["(" + " [] ".join(f"g !c{one} !c{other}; stop" for other in range(45)) + ")" for one in range(45)]
+        names = ", ".join(f"c{count}" for count in range(45))
+        text = f"specification Many [g] : noexit type C is sorts C opns {names} : -> C endtype behaviour {' [] '.join(parts)} endspec"
+        self.write("many.lotos", text)
+        self.start("many.lotos", columns=60)
+        self.wait("# and 2006 more: menu")
+        self.type("-l", "202")
+        self.type("C-a")
+        self.type("-l", "step ")
+        self.type("C-e", "Tab")
+        self.wait("2020")
+        self.type("C-c")
+        self.type_line("step g !c44 !c43")
+        self.wait("did g !c44 !c43")
+
+    def test_without_prompt_toolkit_lines_are_read_as_before(self):
+        self.write("prompt_toolkit.py", "raise ImportError")
+        self.start("alternating_bit.lotos", more=f"PYTHONPATH={self.folder}")
+        self.wait("lotos 0>")
+        self.type("-l", "ste")
+        self.type("Tab")
+        self.type("-l", "1 Suc")
+        self.type("Tab")
+        self.type("-l", "0)")
+        self.type("Enter")
+        self.wait("did put !1")
+        self.type_line("back")
+        self.wait("lotos 0/1>")

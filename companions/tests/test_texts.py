@@ -4,7 +4,8 @@ import unittest
 from .helpers import PROGRAM, FolderTest, sessions
 from lotos_companion.answers import Entry, Label, split_terms
 from lotos_companion.data_names import Operation, read_data_names
-from lotos_companion.numbers import Numbers
+from lotos_companion.numbers import USUAL, Numbers
+from lotos_companion.signature import Signature
 from lotos_companion.program import Words
 from lotos_companion.session import Session
 from lotos_companion.traces import BadTrace, Step, Trace, read_trace_text
@@ -76,7 +77,8 @@ class DecimalNumbers(unittest.TestCase):
             self.assertEqual(Numbers().to_numerals(text), text)
 
     def test_names_of_the_data(self):
-        numbers = Numbers({"2"})
+        two = Operation("2", False, (), "Nat")
+        numbers = Numbers(Signature((*USUAL.operations, two)))
         self.assertEqual(numbers.to_numerals("2, 1"), "2, Succ(0)")
         self.assertEqual(numbers.to_decimals("Succ(Succ(0)), Succ(0)"), "Succ(Succ(0)), 1")
 

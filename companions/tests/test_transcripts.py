@@ -10,7 +10,7 @@ import subprocess
 
 from .helpers import COMPANIONS, HERE, PROGRAM, TOP, FolderTest, read
 
-PAGES = ("SHELL.md", "SCENARIOS.md", "EDITORS.md")
+PAGES = ("SHELL.md", "SCENARIOS.md", "EDITORS.md", "EXPLORING.md")
 
 
 def transcripts():

@@ -45,5 +45,15 @@
 ;;;###autoload
 (add-to-list 'auto-mode-alist '("\\.lotos\\'" . lotos-mode))
 
+(defvar lotos-words nil
+  "What stands behind the names of specifications: an alist of a keyword and a vector,
+as ((:car_park.lotos . [\"with\" \"Succ(0)\" \"true\"])).")
+
+(with-eval-after-load 'eglot
+  (add-to-list 'eglot-server-programs
+               `(lotos-mode . ("lotos-language-server" :initializationOptions
+                               (:words ,(or (mapcan (lambda (it) (list (car it) (cdr it))) lotos-words)
+                                            (make-hash-table)))))))
+
 (provide 'lotos-mode)
 ;;; lotos-mode.el ends here

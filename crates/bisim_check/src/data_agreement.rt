@@ -13,6 +13,10 @@ use sort_terms::{Equation, Flat, Op, Sort, Sorted};
 /// Whether the two data have the same sorts, operations and equations in the same order: sorts by
 /// their names, operations by their names, forms and profiles, equations by their sides. Letter
 /// case of names, places, origins and names of variables make no difference. Takes no memory.
+///
+/// A variable is known by its number. Where the variables of each equation are numbered by first
+/// appearance, as those of flattened data are, equations are compared up to their variables; of
+/// others, two that differ in the numbers of variables alone are not the same.
 pub fn same_data(left: &Flat, right: &Flat) -> bool
     ensures { IsTrue result ↔ AreSameData (data_of left.now) (data_of right.now) }
 {

@@ -19,7 +19,7 @@ pub use Rattle.command_words.specs.HandedOn.{nothing_waits, mentions, ends, memo
 pub use Rattle.command_words.specs.HandedOn.{StandsFor, Breaks, scopes_told, Resolves, Gathers, comes_of, GetsFile, is_got, is_lacking}
 pub use Rattle.command_words.specs.HandedOn.{is_wanting, ReadsSpecification, ReadsOrder, Orders, HaveData, HaveFault, types_told, Flattens}
 pub use Rattle.command_words.specs.HandedOn.{are_within, Refusal, AreStartValues, IsStartFault, WordTerm, HaveValues, HaveTermFault, Start}
-pub use Rattle.command_words.specs.HandedOn.{misread, miscounted, misfitting}
+pub use Rattle.command_words.specs.HandedOn.{misread, miscounted, misfitting, GivesSome, calls_after}
 pub use Rattle.command_words.specs.Words.{CommandLine, Compared, check, session, demonstration, flattening, bisimilarity, Induced, command_line_of}
 pub use Rattle.command_words.specs.Words.{induction, usage_text, command_line, compared_files, induced}
 pub use Rattle.command_words.specs.declared.commands.Command.{Command}
@@ -33,7 +33,7 @@ pub use Rattle.demo_walks.specs.HandedOn.{LineLeaves, written_menu, standing_of,
 pub use Rattle.demo_walks.specs.HandedOn.{is_undone, is_at_start, Befallen, IsReached, ShelfCounts, LineIs, SaveComesTo, ReplayComesTo}
 pub use Rattle.demo_walks.specs.HandedOn.{is_too_long, is_unwritten, is_saved, is_failed, is_missing, is_long, is_refused, is_replayed}
 pub use Rattle.demo_walks.specs.HandedOn.{trace_limit, HasPut, StandsUnder, saved_text, replayed_text, shown_trace, StepAnswer, StepComesTo}
-pub use Rattle.demo_walks.specs.HandedOn.{shown_menu, basis_of, reached, HistoryLines, IsServing}
+pub use Rattle.demo_walks.specs.HandedOn.{shown_menu, basis_of, reached, HistoryLines, IsServing, unread_text}
 pub use Rattle.demo_walks.specs.HandedOn.shelf_answer
 pub use Rattle.demo_walks.specs.HandedOn.step_answer
 pub use Rattle.induct_check.specs.HandedOn.{AllLemmasHold, stated, FirstFaultsAreOne, RightOnesHaveNoFault, RequirementsAreMetOnce, MetIsNotOpen}

@@ -35,6 +35,10 @@ use std::alloc::Global;
 /// type `Data` with all sorts, operations and equations, and one list of processes. Processes of
 /// one name are told apart by a number behind it. After a failure for want of memory the text that
 /// is appended to is as it was.
+///
+/// Nothing is asked of the data. That the text is read back as the same data is told of those whose
+/// equations list their variables by first appearance, numbered from 0, as all flattened data do:
+/// the text lists them as the equation does, and reading numbers them by first appearance.
 pub fn write_flat(flat: &Flat, spec: &Spec, into: &mut Vec<u8>) -> Result<(), NoMemory>
     ensures { MatchResult result
         (λ _. into.new.items ≡ into.old.items ++ flat_text (data_of flat.now)

@@ -2,13 +2,13 @@
 use Rattle.std.proofs.Common.{◌≡◌, ℕ, ◌+◌, ◌≤◌, true, false, List, [], ◌∷◌, ◌++◌, length, Option, Some, None, refl, sym, ap, subst, ◌∙◌, append_assoc, arith, length-append}
 use Rattle.lotos_base.specs.Counts.{Rises}
 use Rattle.line_server.specs.Limits.{input_limit}
-use Rattle.line_server.specs.Cutting.{complete, unfinished, last_line, lines_in}
+use Rattle.line_server.specs.Cutting.{complete, unfinished, last_line}
 use Rattle.line_server.specs.Machine.{Machine}
 use Rattle.line_server.specs.Answered.{Answered}
-use Rattle.line_server.specs.Serving.{HasServed, StopsAt}
+use Rattle.line_server.specs.Serving.{HasServed}
 use Rattle.line_server.specs.Turn.{Surroundings, Turning, turning, moment_in, IsReadOfInput, IsAtEnd, TurnGoesOn, EndsIn, at_end, input_failed, past_limit, in_piece, LinesEndWith, all_served, stopped_at, EndsInPiece, by_line, by_stop, SessionCloses, closed, broken_off, failed_text, too_long_text, end_at}
 use Rattle.line_server.specs.Session as session
-use Rattle.line_server.specs.Session.{Turns, last_turn, one_turn, HasNoMore, CountsStand, AnsweredWhole, SessionCame, IsSessionServed, of_failed_input, of_long_input}
+use Rattle.line_server.specs.Session.{Turns, last_turn, one_turn, HasNoMore, AnsweredWhole, gave, found_none, HasStopped, IsSessionServed, of_failed_input, of_long_input}
 use Rattle.line_server.specs.declared.ends.SessionEnd.{SessionEnd}
 use Rattle.line_server.specs.declared.ends.SessionEnd.TheVariants.{InputFailed, InputTooLong}
 use Rattle.line_server.specs.declared.ends.Stop.{Stop}
@@ -16,7 +16,7 @@ use Rattle.line_server.specs.declared.ends.Stop.TheVariants.{OutputFailed, NoMem
 use Rattle.line_server.proofs.Cuts.{unfinished-append}
 use Rattle.line_server.proofs.WrittenTexts.{writes_then, begins_behind}
 use Rattle.line_server.proofs.AnsweredLines.{answered_then}
-use Rattle.line_server.proofs.ServedBytes.{nothing_served, served_then, stops_then, lines_stop, lines_stop_still, rises_from}
+use Rattle.line_server.proofs.ServedBytes.{nothing_served, served_then, rises_from}
 
 -- so many bytes were read and served
 record Reached {State : Type 0} (machine : Machine State) (start : Surroundings State) (now : Turning State) : Type 0 where
@@ -82,15 +82,12 @@ reached_on machine start now next reached on = record {
   line = on.line ∙ (ap (λ (it : List ℕ). unfinished it on.bytes) reached.line ∙ sym (unfinished-append [] reached.read on.bytes));
 }
 
--- serving stopped at one of the lines in the bytes
+-- serving stopped at one of the lines that were left to be served
 stopped : {State : Type 0} (machine : Machine State) (start after : Surroundings State) (seen : List ℕ) (why : Stop)
-    → length seen ≤ input_limit
-    → IsReadOfInput start.input.bytes seen after.input.bytes → after.input.faults ≡ start.input.faults
-    → StopsAt why machine (lines_in seen) (moment_in start) (moment_in after) → IsSessionServed machine start after (end_at why)
-stopped machine start after seen OutputFailed within read counts stops =
-    record { seen = seen; within = within; came = session.output_failed read stops.0 counts stops.1 }
-stopped machine start after seen NoMemory within read counts stops =
-    record { seen = seen; within = within; came = session.wanted_memory read stops.0 (record { input = counts; output = stops.1 }) }
+    → length seen ≤ input_limit → HasStopped machine start after seen why → IsSessionServed machine start after (end_at why)
+stopped machine start after seen OutputFailed within has =
+    record { seen = seen; within = within; came = session.output_failed has }
+stopped machine start after seen NoMemory within has = record { seen = seen; within = within; came = session.wanted_memory has }
 
 -- the last line was served
 ends_at_end : {State : Type 0} (machine : Machine State) (start : Surroundings State) (now : Turning State) (after : Surroundings State)
@@ -110,11 +107,17 @@ ends_at_end machine start now after end reached is counts (all_served text quits
           (record { input = counts ∙ reached.input; output = output ∙ reached.served.counts });
     }
 ends_at_end machine start now after end reached is counts (stopped_at why stops) =
-    stopped machine start after reached.read why (omega (arith, reached.count, reached.within))
-    (read_all start.input.bytes now.around.input.bytes after.input.bytes reached.read reached.left is).0 (counts ∙ reached.input)
-    (lines_stop why machine (complete [] reached.read) (last_line (unfinished [] reached.read)) (moment_in start) (moment_in now.around)
-    (moment_in after) reached.served.text reached.served.answered reached.served.wrote reached.served.counts
-    (subst (λ (it : List ℕ). StopsAt why machine (last_line it) (moment_in now.around) (moment_in after)) reached.line stops))
+    let read = read_all start.input.bytes now.around.input.bytes after.input.bytes reached.read reached.left is in
+    stopped machine start after reached.read why (omega (arith, reached.count, reached.within)) (record {
+      read = read.0;
+      counts = counts ∙ reached.input;
+      earlier = reached.read;
+      between = moment_in now.around;
+      lines = last_line now.line;
+      served = reached.served;
+      brings = found_none refl read.1 (ap last_line reached.line);
+      stops = stops;
+    })
 
 left_there : {State : Type 0} (machine : Machine State) (start : Surroundings State) (now : Turning State) (after : Surroundings State)
     (reached : Reached machine start now) → after.state ≡ now.around.state
@@ -195,13 +198,16 @@ ends_in_piece machine start now after end reached bytes read within counts (by_l
     }
 ends_in_piece machine start now after end reached bytes read within counts (by_stop why stops) =
     stopped machine start after (reached.read ++ bytes) why (omega (arith, length-append reached.read bytes, reached.count, within))
-    (read_then start.input.bytes now.around.input.bytes after.input.bytes reached.read bytes reached.left read) (counts ∙ reached.input)
-    (lines_stop_still why machine (complete [] (reached.read ++ bytes)) (last_line (unfinished [] (reached.read ++ bytes)))
-    (moment_in start)
-    (moment_in after)
-    (stops_then why machine [] now.line (moment_in start) (moment_in now.around)
-    (moment_in after) reached.read bytes reached.served reached.line
-    stops))
+    (record {
+      read = read_then start.input.bytes now.around.input.bytes after.input.bytes reached.read bytes reached.left read;
+      counts = counts ∙ reached.input;
+      earlier = reached.read;
+      between = moment_in now.around;
+      lines = complete now.line bytes;
+      served = reached.served;
+      brings = gave bytes refl (ap (λ (it : List ℕ). complete it bytes) reached.line);
+      stops = stops;
+    })
 
 ends : {State : Type 0} (machine : Machine State) (start : Surroundings State) (now : Turning State) (after : Surroundings State)
     (end : SessionEnd) → Reached machine start now → EndsIn machine now after end → IsSessionServed machine start after end

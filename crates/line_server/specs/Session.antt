@@ -2,13 +2,16 @@
 use Rattle.std.specs.Prelude.{◌≡◌, ℕ, ◌≤◌, Bool, true, false, List, [], ◌∷◌, ◌++◌, length, Option, Some, IfSome}
 use Rattle.lotos_base.specs.Counts.{Rises}
 use Rattle.line_server.specs.Limits.{input_limit}
-use Rattle.line_server.specs.Cutting.{complete, lines_in}
+use Rattle.line_server.specs.Cutting.{complete, unfinished, last_line, lines_in}
 use Rattle.line_server.specs.Machine.{Machine}
-use Rattle.line_server.specs.Answered.{Answered, FailedAt, WantedAt}
+use Rattle.line_server.specs.Answered.{Answered}
 use Rattle.line_server.specs.Writing.{Stream, WritesAll, WritesUpTo}
-use Rattle.line_server.specs.Turn.{Surroundings, Turning, turning, IsReadOfInput, TurnGoesOn, EndsIn, failed_text, too_long_text}
+use Rattle.line_server.specs.Serving.{Moment, HasServed, StopsAt}
+use Rattle.line_server.specs.Turn.{Surroundings, Turning, moment_in, turning, IsReadOfInput, TurnGoesOn, EndsIn, failed_text, too_long_text}
 use Rattle.line_server.specs.declared.ends.SessionEnd.{SessionEnd}
 use Rattle.line_server.specs.declared.ends.SessionEnd.TheVariants.{Finished, InputFailed, InputTooLong, OutputFailed, NoMemory}
+use Rattle.line_server.specs.declared.ends.Stop.{Stop}
+use Rattle.line_server.specs.declared.ends.Stop.TheVariants as stop
 
 -- turns that go on, one after another, and then one in which the session ends
 pub data Turns {State : Type 0} (machine : Machine State) (after : Surroundings State) (end : SessionEnd) : Turning State → Type 0 where
@@ -45,8 +48,35 @@ pub data FailsToClose (seen : List ℕ) (before after : Stream) : (text : List �
       after.faults ≡ before.faults →
       FailsToClose seen before after too_long_text
 
--- What became of a session, by its end. `seen` are the bytes that were read, of which the line behind the last line feed is
--- dropped where the input failed or is too long.
+-- What is left to be served of the bytes that were read, behind those whose complete lines were answered: bytes that were read
+-- behind them, and the lines that these complete; or the end of the input, and the line without a line feed, if it has a byte.
+pub data Brings (before after : Option (List ℕ)) (earlier seen : List ℕ) (lines : List (List ℕ)) : Type 0 where
+  gave :
+      (piece : List ℕ) →
+      seen ≡ earlier ++ piece →
+      lines ≡ complete (unfinished [] earlier) piece →
+      Brings before after earlier seen lines
+  found_none :
+      seen ≡ earlier →
+      HasNoMore before after →
+      lines ≡ last_line (unfinished [] earlier) →
+      Brings before after earlier seen lines
+
+-- Serving stopped at one of the lines that were left to be served, where the complete lines of the bytes before them had been
+-- answered, and the answers written whole.
+pub record HasStopped {State : Type 0} (machine : Machine State) (before after : Surroundings State) (seen : List ℕ) (why : Stop) : Type 0
+  where
+    pub read : IsReadOfInput before.input.bytes seen after.input.bytes
+    pub counts : after.input.faults ≡ before.input.faults
+    pub earlier : List ℕ
+    pub between : Moment State
+    pub lines : List (List ℕ)
+    pub served : HasServed machine [] (moment_in before) earlier between false
+    pub brings : Brings before.input.bytes after.input.bytes earlier seen lines
+    pub stops : StopsAt why machine lines between (moment_in after)
+
+-- What became of a session, by its end. `seen` are the bytes that were read. Of these the line behind the last line feed is served
+-- only where the input ended there.
 pub data SessionCame {State : Type 0} (machine : Machine State) (before after : Surroundings State) (seen : List ℕ) : SessionEnd → Type 0
   where
     -- all lines were answered up to the end of the input
@@ -84,10 +114,7 @@ pub data SessionCame {State : Type 0} (machine : Machine State) (before after : 
         SessionCame machine before after seen InputTooLong
     -- the output failed at an answer, or at the closing line
     output_failed :
-        IsReadOfInput before.input.bytes seen after.input.bytes →
-        FailedAt machine before.state (lines_in seen) before.output.bytes after.output.bytes after.state →
-        after.input.faults ≡ before.input.faults →
-        Rises before.output.faults after.output.faults →
+        HasStopped machine before after seen stop.OutputFailed →
         SessionCame machine before after seen OutputFailed
     closing_failed :
         (text closing : List ℕ) →
@@ -97,9 +124,7 @@ pub data SessionCame {State : Type 0} (machine : Machine State) (before after : 
         Rises before.output.faults after.output.faults →
         SessionCame machine before after seen OutputFailed
     wanted_memory :
-        IsReadOfInput before.input.bytes seen after.input.bytes →
-        WantedAt machine before.state (lines_in seen) before.output.bytes after.output.bytes after.state →
-        CountsStand before after →
+        HasStopped machine before after seen stop.NoMemory →
         SessionCame machine before after seen NoMemory
 
 -- A session was served: there are bytes, within the limit, of which this became.

@@ -1,15 +1,16 @@
 -- Each answer of a run comes where its cause stands.
-use Rattle.std.proofs.Common.{◌≡◌, ◌⊎◌, inl, inr, ℕ, ◌<◌, List, [], ◌∷◌, ◌++◌, length, Option, None, Some, IsSomeAnd, refl, sym, ap, subst, ◌∙◌, arith, length-append}
+use Rattle.std.proofs.Common.{◌≡◌, ◌⊎◌, inl, inr, ℕ, ◌<◌, List, [], ◌∷◌, ◌++◌, length, Option, None, Some, refl, sym, ap, subst, ◌∙◌, arith, length-append}
 use Rattle.std.proofs.lemmas.Option.{none-some}
-use Rattle.lotos_base.specs.Counts.{Rises}
+use Rattle.lotos_base.specs.Counts.{Rises, next_count}
+use Rattle.lotos_base.specs.Outside.{Texts}
 use Rattle.certificate_verbs.specs.HandedOn.{ShelfState, GotFile, Refused, Asked, Founded, IsAccepted, IsFounded, Did, Comes, goes_on}
 use Rattle.certificate_verbs.specs.HandedOn.{unread, stops, wants_memory, Part, Then, Has, Telling, SessionPoint, history_machine}
 use Rattle.certificate_verbs.specs.HandedOn.{Beginning, CommandLine, Compared, check, session, demonstration, flattening, bisimilarity}
-use Rattle.certificate_verbs.specs.HandedOn.{Induced, induction}
+use Rattle.certificate_verbs.specs.HandedOn.{Induced, induction, shelf_state, Gives, GivesSome, calls_after}
 use Rattle.line_server.specs.Limits.{input_limit}
 use Rattle.line_server.specs.Session.{SessionCame, finished, quit, input_failed, too_long, output_failed, closing_failed, wanted_memory}
 use Rattle.line_server.specs.Turn.{around, IsReadOfInput}
-use Rattle.line_server.specs.Writing.{Stream}
+use Rattle.line_server.specs.Writing.{Stream, WritesAll}
 use Rattle.line_server.specs.declared.ends.SessionEnd.{SessionEnd}
 use Rattle.line_server.proofs.ServedBytes.{rises_from}
 use Rattle.certificate_verbs.specs.Certificates.{bisimilar_printed}
@@ -18,7 +19,7 @@ use Rattle.certificate_verbs.specs.declared.ended.Ended.{Ended}
 use Rattle.certificate_verbs.specs.declared.ended.Ended.TheVariants.{Done, SpecRefused, WordsRefused, FileFault, InputFault, OutputFault, NoMemory, InputTooLong, CertificateRefused}
 use Rattle.certificate_verbs.proofs.ComparedParts.{checks_on, checks_refuses, no_refusal}
 use Rattle.certificate_verbs.proofs.InducedParts.{induces_on, induces_refuses}
-use Rattle.lotos_top.specs.Causes.{GivesWay, IsReadPast, ServesLines, IsDemonstration, IsUnread, AnswersHaveCauses}
+use Rattle.lotos_top.specs.Causes.{GivesWay, IsReadPast, ServesLines, IsDemonstration, IsUnread, IsUnreadPrinted, AnswersHaveCauses}
 use Rattle.lotos_top.specs.Flattening.{flat_printed}
 use Rattle.lotos_top.specs.Opening.{opening_text}
 use Rattle.lotos_top.specs.Parts.{OpensSession}
@@ -28,31 +29,39 @@ use Rattle.lotos_top.specs.Work.{work_of}
 -- ---- A text that is printed
 
 -- the status has its cause, and where a cause stands it is the status
-record StatusFits (line : Option CommandLine) (shelf between : ShelfState) (status : Ended) : Type 0 where
-  pub words : status ≡ WordsRefused → line ≡ None
-  pub no_line : line ≡ None → status ≡ WordsRefused
-  pub files : status ≡ FileFault → IsUnread shelf between ⊎ IsDemonstration line
-  pub shelf_fault : shelf.faults < between.faults → status ≡ FileFault
-  pub input : status ≡ InputFault → ⊥
-  pub output : status ≡ OutputFault → ⊥
-  pub long : status ≡ InputTooLong → ⊥
+record StatusFits (line : Option CommandLine) (shelf between : ShelfState) (p : Print) : Type 0 where
+  pub words : p.status ≡ WordsRefused → line ≡ None
+  pub no_line : line ≡ None → p.status ≡ WordsRefused
+  pub files : p.status ≡ FileFault → (name : List ℕ) × IsUnread line shelf between name × (p ≡ unread_printed name)
+  pub shelf_fault : shelf.faults < between.faults → p.status ≡ FileFault
+  pub input : p.status ≡ InputFault → ⊥
+  pub output : p.status ≡ OutputFault → ⊥
+  pub long : p.status ≡ InputTooLong → ⊥
+
+-- nothing was asked of the shelf, and no file is lacking
+record FindsNoFile (shelf between : ShelfState) (p : Print) : Type 0 where
+  pub status : p.status ≡ FileFault → ⊥
+  pub kept : between ≡ shelf
 
 -- which answer a print comes to
 record WroteSo (p : Print) (before after : Stream) (answer : Ended) : Type 0 where
   pub is : (answer ≡ p.status) ⊎ GivesWay answer
+  pub text : (answer ≡ OutputFault → ⊥) → (answer ≡ NoMemory → ⊥) → WritesAll before.bytes after.bytes p.text
   pub output : answer ≡ OutputFault → (p.status ≡ OutputFault → ⊥) → Rises before.faults after.faults
   pub output_fault : before.faults < after.faults → answer ≡ OutputFault
 
 wrote_so : (p : Print) (before after : Stream) (answer : Ended) → Writes p before after answer → WroteSo p before after answer
 wrote_so p before after answer (whole is wrote same) = record {
   is = inl is;
+  text = λ _ _. wrote;
   output = λ failed not. absurd (not (sym is ∙ failed));
   output_fault = λ rose. absurd (omega (arith, same, rose));
 }
 wrote_so p before after answer (in_part is wrote rises) =
-    record { is = inr (inl is); output = λ failed not. rises; output_fault = λ rose. is }
+    record { is = inr (inl is); text = λ not _. absurd (not is); output = λ failed not. rises; output_fault = λ rose. is }
 wrote_so p before after answer (nothing is same) = record {
   is = inr (inr is);
+  text = λ _ not. absurd (not is);
   output = λ failed not. absurd (cc (is, failed));
   output_fault = λ rose. absurd (omega (arith, ap (λ (it : Stream). it.faults) same, rose));
 }
@@ -69,16 +78,16 @@ by_status answer status wanted (inr (inl is)) same no_output no_memory so = absu
 by_status answer status wanted (inr (inr is)) same no_output no_memory so = absurd (no_memory (sym same ∙ is))
 
 printed_causes : (line : Option CommandLine) (shelf between shelf_after : ShelfState) (before after : Streams) (answer : Ended) (p : Print)
-    → between.texts ≡ shelf.texts → StatusFits line shelf between p.status → Prints p between shelf_after before after answer
-    → AnswersHaveCauses line shelf shelf_after before after answer
-printed_causes line shelf between shelf_after before after answer p kept fits done =
+    → between.texts ≡ shelf.texts → StatusFits line shelf between p → (IsDemonstration line → FindsNoFile shelf between p)
+    → Prints p between shelf_after before after answer → AnswersHaveCauses line shelf shelf_after before after answer
+printed_causes line shelf between shelf_after before after answer p kept fits finds done =
     let so = wrote_so p before.output after.output answer done.writes in record {
       words = λ is. by_status answer p.status WordsRefused so.is is (λ e. cc e) (λ e. cc e) fits.words;
       no_line = λ none. or_gives_way answer p.status WordsRefused so.is (fits.no_line none);
-      files = λ is. (
-        subst (λ (it : ShelfState). IsUnread shelf it ⊎ IsDemonstration line) (sym done.shelf_kept)
-            (by_status answer p.status FileFault so.is is (λ e. cc e) (λ e. cc e) fits.files),
-        done.input_kept,
+      files = λ is. unread_so is (by_status answer p.status FileFault so.is is (λ e. cc e) (λ e. cc e) fits.files);
+      no_file = λ demo. (
+        λ is. (finds demo).status (by_status answer p.status FileFault so.is is (λ e. cc e) (λ e. cc e) (λ e. e)),
+        done.shelf_kept ∙ (finds demo).kept,
       );
       shelf_fault = λ rose. by_gives (or_gives_way answer p.status FileFault so.is (fits.shelf_fault (omega (
         arith,
@@ -93,6 +102,16 @@ printed_causes line shelf between shelf_after before after answer p kept fits do
       texts = inl (ap (λ (it : ShelfState). it.texts) done.shelf_kept ∙ kept);
     }
   where
+    unread_so : answer ≡ FileFault → (name : List ℕ) × IsUnread line shelf between name × (p ≡ unread_printed name)
+        → IsUnreadPrinted line shelf shelf_after before after
+    unread_so is cause = record {
+      name = cause.0;
+      unread_is = subst (λ (it : ShelfState). IsUnread line shelf it cause.0) (sym done.shelf_kept) cause.1;
+      printed = subst (λ (it : Print). WritesAll before.output.bytes after.output.bytes it.text) cause.2
+          ((wrote_so p before.output after.output answer done.writes).text (λ e. cc (is, e)) (λ e. cc (is, e)));
+      input_kept = done.input_kept;
+    }
+
     by_gives : (answer ≡ FileFault) ⊎ GivesWay answer → (answer ≡ FileFault) ⊎ GivesWay answer ⊎ ServesLines line
     by_gives (inl is) = inl is
     by_gives (inr gives) = inr (inl gives)
@@ -103,9 +122,9 @@ printed_causes line shelf between shelf_after before after answer p kept fits do
 abbrev pub EndsPlainly : Ended → Type 0
 EndsPlainly status = (status ≡ Done) ⊎ (status ≡ SpecRefused) ⊎ (status ≡ CertificateRefused)
 
-plain_status : (line : Option CommandLine) (shelf between : ShelfState) (status : Ended) → (line ≡ None → ⊥)
-    → between.faults ≡ shelf.faults → EndsPlainly status → StatusFits line shelf between status
-plain_status line shelf between status some kept is = record {
+plain_status : (line : Option CommandLine) (shelf between : ShelfState) (p : Print) → (line ≡ None → ⊥)
+    → between.faults ≡ shelf.faults → EndsPlainly p.status → StatusFits line shelf between p
+plain_status line shelf between p some kept is = record {
   words = λ e. absurd (neither WordsRefused is e (λ h. cc h) (λ h. cc h) (λ h. cc h));
   no_line = λ none. absurd (some none);
   files = λ e. absurd (neither FileFault is e (λ h. cc h) (λ h. cc h) (λ h. cc h));
@@ -115,15 +134,15 @@ plain_status line shelf between status some kept is = record {
   long = λ e. neither InputTooLong is e (λ h. cc h) (λ h. cc h) (λ h. cc h);
 }
   where
-    neither : (other : Ended) → EndsPlainly status → status ≡ other → (other ≡ Done → ⊥) → (other ≡ SpecRefused → ⊥)
+    neither : (other : Ended) → EndsPlainly p.status → p.status ≡ other → (other ≡ Done → ⊥) → (other ≡ SpecRefused → ⊥)
         → (other ≡ CertificateRefused → ⊥) → ⊥
     neither other (inl a) e no_done no_refusal no_certificate = no_done (sym e ∙ a)
     neither other (inr (inl b)) e no_done no_refusal no_certificate = no_refusal (sym e ∙ b)
     neither other (inr (inr d)) e no_done no_refusal no_certificate = no_certificate (sym e ∙ d)
 
-words_status : (shelf between : ShelfState) (status : Ended) → between.faults ≡ shelf.faults → status ≡ WordsRefused
-    → StatusFits None shelf between status
-words_status shelf between status kept is = record {
+words_status : (shelf between : ShelfState) (p : Print) → between.faults ≡ shelf.faults → p.status ≡ WordsRefused
+    → StatusFits None shelf between p
+words_status shelf between p kept is = record {
   words = λ e. refl;
   no_line = λ none. is;
   files = λ e. absurd (cc (is, e));
@@ -133,23 +152,17 @@ words_status shelf between status kept is = record {
   long = λ e. cc (is, e);
 }
 
-file_status : (line : Option CommandLine) (shelf between : ShelfState) (status : Ended) → (line ≡ None → ⊥)
-    → IsUnread shelf between ⊎ IsDemonstration line → status ≡ FileFault → StatusFits line shelf between status
-file_status line shelf between status some cause is = record {
-  words = λ e. absurd (cc (is, e));
+file_status : (line : Option CommandLine) (shelf between : ShelfState) (name : List ℕ) → (line ≡ None → ⊥)
+    → IsUnread line shelf between name → StatusFits line shelf between (unread_printed name)
+file_status line shelf between name some cause = record {
+  words = λ e. absurd (cc e);
   no_line = λ none. absurd (some none);
-  files = λ e. cause;
-  shelf_fault = λ rose. is;
-  input = λ e. cc (is, e);
-  output = λ e. cc (is, e);
-  long = λ e. cc (is, e);
+  files = λ e. (name, cause, refl);
+  shelf_fault = λ rose. refl;
+  input = λ e. cc e;
+  output = λ e. cc e;
+  long = λ e. cc e;
 }
-
-unread_cause : (shelf between : ShelfState) (name : List ℕ)
-    → Rises shelf.faults between.faults
-    ⊎ ((between.faults ≡ shelf.faults) × IsSomeAnd shelf.texts (λ texts. texts name ≡ None)) → IsUnread shelf between
-unread_cause shelf between name (inl rises) = inl rises
-unread_cause shelf between name (inr lacks) = inr (name, lacks.1)
 
 -- ---- A session
 
@@ -233,12 +246,13 @@ came_facts start last before after between seen end answer same (input_failed te
     input_facts before after answer is rises (output ∙ same)
 came_facts start last before after between seen end answer same (too_long text byte whole_ read answered wrote stand) is =
     long_facts before after answer is (past before.input.bytes after.input.bytes seen byte whole_ read) stand.input (stand.output ∙ same)
-came_facts start last before after between seen end answer same (output_failed read failed input rises) is =
-    output_facts before after answer is (rises_from before.output.faults between.faults after.output.faults same rises)
+came_facts start last before after between seen end answer same (output_failed has) is =
+    output_facts before after answer is (rises_from before.output.faults between.faults after.output.faults same
+    (rises_from between.faults has.between.output.faults after.output.faults has.served.counts has.stops.1))
 came_facts start last before after between seen end answer same (closing_failed text closing fails answered wrote rises) is =
     output_facts before after answer is (rises_from before.output.faults between.faults after.output.faults same rises)
-came_facts start last before after between seen end answer same (wanted_memory read wanted stand) is =
-    steady_facts before after answer (inr is) stand.input (stand.output ∙ same)
+came_facts start last before after between seen end answer same (wanted_memory has) is =
+    steady_facts before after answer (inr is) has.counts (has.stops.1 ∙ (has.served.counts ∙ same))
 
 serves_facts : (begun : Beginning) (shelf shelf_after : ShelfState) (before after : Streams) (answer : Ended)
     → ServesSession begun shelf shelf_after before after answer → SessionFacts before after answer
@@ -257,6 +271,7 @@ served_causes asked shelf between shelf_after before after answer begun serves_ 
       no_line = λ none. absurd (none-some (session asked) (sym none));
       files = λ e. absurd (facts.files e);
       shelf_fault = λ rose. inr (inr tt);
+      no_file = λ demo. absurd demo;
       input = facts.input;
       input_fault = facts.input_fault;
       output = facts.output;
@@ -268,9 +283,9 @@ served_causes asked shelf between shelf_after before after answer begun serves_ 
 -- ---- Memory was wanted
 
 stopped_causes : (line : Option CommandLine) (shelf between shelf_after : ShelfState) (before after : Streams) (answer : Ended)
-    → between.texts ≡ shelf.texts → between.faults ≡ shelf.faults → Stops between shelf_after before after answer
-    → AnswersHaveCauses line shelf shelf_after before after answer
-stopped_causes line shelf between shelf_after before after answer texts faults stopped =
+    → between.texts ≡ shelf.texts → between.faults ≡ shelf.faults → (IsDemonstration line → between ≡ shelf)
+    → Stops between shelf_after before after answer → AnswersHaveCauses line shelf shelf_after before after answer
+stopped_causes line shelf between shelf_after before after answer texts faults uncalled stopped =
     let facts = steady_facts before after answer (inr stopped.is) (ap (λ (it : Streams). it.input.faults) stopped.kept)
     (ap (λ (it : Streams). it.output.faults) stopped.kept) in record {
       words = λ e. absurd (facts.words e);
@@ -278,6 +293,7 @@ stopped_causes line shelf between shelf_after before after answer texts faults s
       files = λ e. absurd (facts.files e);
       shelf_fault = λ rose.
           absurd (omega (arith, rose, faults, ap (λ (it : ShelfState). it.faults) stopped.shelf_kept));
+      no_file = λ demo. (λ e. facts.files e, stopped.shelf_kept ∙ uncalled demo);
       input = facts.input;
       input_fault = facts.input_fault;
       output = facts.output;
@@ -285,6 +301,27 @@ stopped_causes line shelf between shelf_after before after answer texts faults s
       long = facts.long;
       texts = inl (ap (λ (it : ShelfState). it.texts) stopped.shelf_kept ∙ texts);
     }
+
+-- ---- No file
+
+same_shelf : (a b : ShelfState) → b.texts ≡ a.texts → b.faults ≡ a.faults → b.calls ≡ a.calls → b ≡ a
+same_shelf a b texts faults calls =
+    ap (λ (it : Option Texts). shelf_state it b.faults b.calls) texts
+    ∙ (ap (λ (it : ℕ). shelf_state a.texts it b.calls) faults ∙ ap (λ (it : ℕ). shelf_state a.texts a.faults it) calls)
+
+calls_none : (files : List GotFile) (calls : ℕ) → files ≡ [] → calls_after files calls ≡ calls
+calls_none files calls none = ap (λ (it : List GotFile). calls_after it calls) none
+
+given_none : (a b : ShelfState) (files : List GotFile) → files ≡ [] → Gives a b files → b ≡ a
+given_none a b files none gives =
+    same_shelf a b gives.texts gives.faults (gives.calls ∙ calls_none files a.calls none)
+
+given_some : (a b : ShelfState) (files : List GotFile) (More : Type 0) → files ≡ [] → (More → ⊥) → GivesSome a b files More → b ≡ a
+given_some a b files More none no_more gives = same_shelf a b gives.texts gives.faults (by gives.calls)
+  where
+    by : (b.calls ≡ calls_after files a.calls) ⊎ (More × (b.calls ≡ next_count (calls_after files a.calls))) → b.calls ≡ a.calls
+    by (inl is) = is ∙ calls_none files a.calls none
+    by (inr asks) = absurd (no_more asks.0)
 
 -- ---- The lines of words
 
@@ -354,30 +391,32 @@ module _ (shelf between shelf_after : ShelfState) (before after : Streams) (answ
       → AnswersHaveCauses None shelf shelf_after before after answer
   no_line_causes (goes_on (prints p)) did follows =
       printed_causes None shelf between shelf_after before after answer p did.1.texts
-      (words_status shelf between p.status did.1.faults (status_same p _ (print_same p _ did.2.1))) follows
+      (words_status shelf between p did.1.faults (status_same p _ (print_same p _ did.2.1))) (λ demo. absurd demo) follows
   no_line_causes (goes_on (serves begun)) did follows = absurd (prints_and_serves _ begun (sym did.2.1))
   no_line_causes (unread name) did follows = absurd did.2
   no_line_causes (stops p) did follows = absurd did.2
   no_line_causes wants_memory did follows = stopped_causes None shelf between shelf_after before after answer did.1.texts did.1.faults
-      follows
+      (λ demo. absurd demo) follows
 
   -- a line that prints a text alone
-  plain_causes : (line : CommandLine) → PrintsPlainly (work_of (Some line)) → (comes : Comes Print Finish)
+  plain_causes : (line : CommandLine) → PrintsPlainly (work_of (Some line)) → (IsDemonstration (Some line) → ⊥) → (comes : Comes Print Finish)
       → Did shelf between (work_of (Some line)) comes → FollowsFromWork comes between shelf_after before after answer
       → AnswersHaveCauses (Some line) shelf shelf_after before after answer
-  plain_causes line plainly (goes_on finish) did follows =
+  plain_causes line plainly other (goes_on finish) did follows =
       let printed = plainly.finishes did.0 finish did.2 in
       printed_causes (Some line) shelf between shelf_after before after answer printed.0 did.1.texts
-      (plain_status (Some line) shelf between printed.0.status (some_line line) did.1.faults printed.2)
+      (plain_status (Some line) shelf between printed.0 (some_line line) did.1.faults printed.2) (λ demo. absurd (other demo))
       (subst (λ (it : Finish). FollowsFromWork (goes_on it) between shelf_after before after answer) printed.1 follows)
-  plain_causes line plainly (unread name) did follows =
+  plain_causes line plainly other (unread name) did follows =
       printed_causes (Some line) shelf between shelf_after before after answer (unread_printed name) did.1.texts
-      (file_status (Some line) shelf between FileFault (some_line line) (inl (unread_cause shelf between name did.1.cause)) refl) follows
-  plain_causes line plainly (stops p) did follows =
+      (file_status (Some line) shelf between name (some_line line) did)
+      (λ demo. absurd (other demo)) follows
+  plain_causes line plainly other (stops p) did follows =
       printed_causes (Some line) shelf between shelf_after before after answer p did.1.texts
-      (plain_status (Some line) shelf between p.status (some_line line) did.1.faults (plainly.refuses did.0 p did.2)) follows
-  plain_causes line plainly wants_memory did follows =
-      stopped_causes (Some line) shelf between shelf_after before after answer did.1.texts did.1.faults follows
+      (plain_status (Some line) shelf between p (some_line line) did.1.faults (plainly.refuses did.0 p did.2))
+      (λ demo. absurd (other demo)) follows
+  plain_causes line plainly other wants_memory did follows =
+      stopped_causes (Some line) shelf between shelf_after before after answer did.1.texts did.1.faults (λ demo. absurd (other demo)) follows
 
   session_causes : (asked : Asked) (comes : Comes Print Finish) → Did shelf between (work_of (Some (session asked))) comes
       → FollowsFromWork comes between shelf_after before after answer
@@ -388,15 +427,16 @@ module _ (shelf between shelf_after : ShelfState) (before after : Streams) (answ
   session_causes asked (goes_on (prints p)) (files, gives, inr then_) follows = absurd (prints_and_serves p _ then_.4.1)
   session_causes asked (unread name) (files, gives, came) follows =
       printed_causes (Some (session asked)) shelf between shelf_after before after answer (unread_printed name) gives.texts
-      (file_status (Some (session asked)) shelf between FileFault (some_line (session asked))
-      (inl (unread_cause shelf between name gives.cause)) refl) follows
+      (file_status (Some (session asked)) shelf between name (some_line (session asked))
+      (files, gives, came)) (λ demo. absurd demo) follows
   session_causes asked (stops p) (files, gives, inl ended) follows =
       printed_causes (Some (session asked)) shelf between shelf_after before after answer p gives.texts
-      (plain_status (Some (session asked)) shelf between p.status (some_line (session asked)) gives.faults
-      (inr (inl (status_same p _ ended.2)))) follows
+      (plain_status (Some (session asked)) shelf between p (some_line (session asked)) gives.faults
+      (inr (inl (status_same p _ ended.2)))) (λ demo. absurd demo) follows
   session_causes asked (stops p) (files, gives, inr then_) follows = absurd then_.4
   session_causes asked wants_memory did follows =
-      stopped_causes (Some (session asked)) shelf between shelf_after before after answer did.1.texts did.1.faults follows
+      stopped_causes (Some (session asked)) shelf between shelf_after before after answer did.1.texts did.1.faults (λ demo. absurd demo)
+      follows
 
   demo_causes : (cells : ℕ) (comes : Comes Print Finish) → Did shelf between (work_of (Some (demonstration cells))) comes
       → FollowsFromWork comes between shelf_after before after answer
@@ -404,33 +444,31 @@ module _ (shelf between shelf_after : ShelfState) (before after : Streams) (answ
   demo_causes cells (goes_on (prints p)) (files, gives, (none, inl ended)) follows = absurd ended
   demo_causes cells (goes_on (prints p)) (files, gives, (none, inr then_)) follows =
       printed_causes (Some (demonstration cells)) shelf between shelf_after before after answer p gives.texts
-      (plain_status (Some (demonstration cells)) shelf between p.status (some_line (demonstration cells)) gives.faults (inl then_.4.1.1))
-      follows
+      (plain_status (Some (demonstration cells)) shelf between p (some_line (demonstration cells)) gives.faults (inl then_.4.1.1))
+      (λ _. record { status = λ e. cc (then_.4.1.1, e); kept = given_none shelf between files none gives }) follows
   demo_causes cells (goes_on (serves begun)) (files, gives, (none, inl ended)) follows = absurd ended
   demo_causes cells (goes_on (serves begun)) (files, gives, (none, inr then_)) follows = absurd then_.4.1
   demo_causes cells (unread name) (files, gives, came) follows = absurd came
-  demo_causes cells (stops p) (files, gives, (none, inl (inl ended))) follows =
+  demo_causes cells (stops p) (files, gives, (none, inl ended)) follows =
+      let is : p.status ≡ SpecRefused = status_same p _ ended.2 in
       printed_causes (Some (demonstration cells)) shelf between shelf_after before after answer p gives.texts
-      (plain_status (Some (demonstration cells)) shelf between p.status (some_line (demonstration cells)) gives.faults
-      (inr (inl (status_same p _ ended.2)))) follows
-  demo_causes cells (stops p) (files, gives, (none, inl (inr then_))) follows = absurd then_.4
-  demo_causes cells (stops p) (files, gives, (none, inr asks)) follows =
-      printed_causes (Some (demonstration cells)) shelf between shelf_after before after answer p gives.texts
-      (file_status (Some (demonstration cells)) shelf between p.status (some_line (demonstration cells)) (inr tt)
-      (status_same p _ asks.2)) follows
-  demo_causes cells wants_memory did follows =
-      stopped_causes (Some (demonstration cells)) shelf between shelf_after before after answer did.1.texts did.1.faults follows
+      (plain_status (Some (demonstration cells)) shelf between p (some_line (demonstration cells)) gives.faults (inr (inl is)))
+      (λ _. record { status = λ e. cc (is, e); kept = given_none shelf between files none gives }) follows
+  demo_causes cells (stops p) (files, gives, (none, inr then_)) follows = absurd then_.4
+  demo_causes cells wants_memory (files, gives, none) follows =
+      stopped_causes (Some (demonstration cells)) shelf between shelf_after before after answer gives.texts gives.faults
+      (λ _. given_some shelf between files _ none (λ asks. absurd asks.1) gives) follows
 
   causes_of : (line : Option CommandLine) (comes : Comes Print Finish) → Did shelf between (work_of line) comes
       → FollowsFromWork comes between shelf_after before after answer → AnswersHaveCauses line shelf shelf_after before after answer
   causes_of None comes did follows = no_line_causes comes did follows
-  causes_of (Some (check asked)) comes did follows = plain_causes (check asked) (check_plainly asked) comes did follows
+  causes_of (Some (check asked)) comes did follows = plain_causes (check asked) (check_plainly asked) (λ demo. demo) comes did follows
   causes_of (Some (session asked)) comes did follows = session_causes asked comes did follows
   causes_of (Some (demonstration cells)) comes did follows = demo_causes cells comes did follows
   causes_of (Some (flattening spec order)) comes did follows =
-      plain_causes (flattening spec order) (flatten_plainly spec order) comes did follows
-  causes_of (Some (bisimilarity c)) comes did follows = plain_causes (bisimilarity c) (certificate_plainly c) comes did follows
-  causes_of (Some (induction i)) comes did follows = plain_causes (induction i) (induction_plainly i) comes did follows
+      plain_causes (flattening spec order) (flatten_plainly spec order) (λ demo. demo) comes did follows
+  causes_of (Some (bisimilarity c)) comes did follows = plain_causes (bisimilarity c) (certificate_plainly c) (λ demo. demo) comes did follows
+  causes_of (Some (induction i)) comes did follows = plain_causes (induction i) (induction_plainly i) (λ demo. demo) comes did follows
 
 pub causes : (line : Option CommandLine) (shelf shelf_after : ShelfState) (before after : Streams) (answer : Ended)
     → Ran line shelf shelf_after before after answer → AnswersHaveCauses line shelf shelf_after before after answer

@@ -128,13 +128,13 @@ module _ (answered : ServedLinesAreAnswered) (leads : LinesLeadOn) (acceptance :
         whole,
         within,
       ))
-  came_so between last seen end answer opening counts kept (output_failed read failed input rises) is =
+  came_so between last seen end answer opening counts kept (output_failed has) is =
       absurd (no_rise before.output.faults after.output.faults steady.output_stands
-      (subst (λ (it : ℕ). Rises it after.output.faults) counts rises))
+      (subst (λ (it : ℕ). Rises it after.output.faults) (has.served.counts ∙ counts) has.stops.1))
   came_so between last seen end answer opening counts kept (closing_failed text closing fails lines rest rises) is =
       absurd (no_rise before.output.faults after.output.faults steady.output_stands
       (subst (λ (it : ℕ). Rises it after.output.faults) counts rises))
-  came_so between last seen end answer opening counts kept (wanted_memory read wanted stand) is = inl is
+  came_so between last seen end answer opening counts kept (wanted_memory has) is = inl is
 
   pub simulates : (answer : Ended) → ServesSession begun shelf shelf_after before after answer
       → (answer ≡ NoMemory) ⊎ Simulates acceptance texts bytes written shelf_after after answer

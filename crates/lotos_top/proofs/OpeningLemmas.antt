@@ -3,7 +3,7 @@ use Rattle.std.proofs.Common.{◌≡◌, inl, inr, ℕ, zero, List, [], ◌∷�
 use Rattle.std.proofs.lemmas.Option.{none-some}
 use Rattle.lotos_base.specs.MemShelf.{File, text_under, texts_of, faults_of, calls_of}
 use Rattle.lotos_base.specs.Outside.{Texts}
-use Rattle.certificate_verbs.specs.HandedOn.{ShelfState, shelf_state, GotFile, IsFileOf, Refused, refused_of, Acceptance, Asked}
+use Rattle.certificate_verbs.specs.HandedOn.{ShelfState, shelf_state, GotFile, IsFileOf, Refused, Acceptance, Asked}
 use Rattle.certificate_verbs.specs.HandedOn.{AcceptsText, IsAccepted, goes_on, unread, stops, wants_memory, Part, Has, Did, Failed}
 use Rattle.certificate_verbs.specs.HandedOn.{NotAccepted, File as Lacking, Spec, NoMemory, IsSummary, demo_text, past_of, progress_of}
 use Rattle.certificate_verbs.specs.HandedOn.{Course, Past, Beginning, CommandLine, check, session, demonstration, usage_text}
@@ -15,7 +15,7 @@ use Rattle.certificate_verbs.specs.declared.printing.Alone.{Alone}
 use Rattle.certificate_verbs.specs.declared.ended.Ended.TheVariants.{Done, WordsRefused}
 use Rattle.certificate_verbs.proofs.PrintedLemmas.{print_is, goes_on_to}
 use Rattle.lotos_top.specs.Opening.{SessionBegins, opening_text}
-use Rattle.lotos_top.specs.Prepared.{begun, CameTo, IsReady, IsMadeReady, FailsAlone}
+use Rattle.lotos_top.specs.Prepared.{begun, CameTo, IsReady, IsMadeReady, FailsAlone, NamesNoFile}
 use Rattle.lotos_top.specs.Parts.{Finds, OpensSession}
 use Rattle.lotos_top.specs.Work.{work_of}
 use Rattle.lotos_top.specs.declared.opening.Opened.{Opened}
@@ -156,30 +156,26 @@ module _ (cells : ℕ) (now : ShelfState) where
     refl,
   )
 
-  pub demo_fault : (fault : NotAccepted) (alone : Alone) → FailsAlone (OpensSession Accepts) fault
+  pub demo_fault : (fault : NotAccepted) (alone : Alone) → FailsAlone (OpensSession Accepts) fault → NamesNoFile fault
       → IsFaultPrinted (codes "demo") None fault (print_in alone) → IsReady (Some (demonstration cells)) now now (ready.Alone alone)
-  demo_fault (Lacking name) alone failed is = (
-    stops (print_in alone),
-    ([], gives_nothing now, (refl, inr (name.items, inl failed, is))),
-    refl,
-  )
-  demo_fault (Spec r) alone failed is = (
+  demo_fault (Lacking name) alone failed none is = absurd none
+  demo_fault (Spec r) alone failed none is = (
     stops (print_in alone),
     (
       [],
       gives_nothing now,
       (
         refl,
-        inl (inl (
+        inl (
           failed.0,
           failed.2,
           subst (λ (found_ : Option Refused). IfSome found_ (λ it. print_in alone ≡ refusal_printed (codes "demo") None it)) failed.1 is,
-        )),
+        ),
       ),
     ),
     refl,
   )
-  demo_fault NoMemory alone failed is = absurd is
+  demo_fault NoMemory alone failed none is = absurd is
 
   pub demo_came : CameTo (Some (demonstration cells)) now now
   demo_came = (wants_memory, wants_nothing now (work_of (Some (demonstration cells))) refl)

@@ -6,12 +6,14 @@ use Rattle.lotos_base.specs.Counts.{Rises}
 use Rattle.certificate_verbs.specs.HandedOn.{ShelfState, Did, Comes, goes_on, unread, stops, wants_memory, Part, moment_of}
 use Rattle.certificate_verbs.specs.HandedOn.{IsBeforeOrBehind, SessionPoint, LineLeaves, history_machine, Beginning, CommandLine}
 use Rattle.line_server.specs.Answered.{FailedAt, WantedAt, LeftAt}
-use Rattle.line_server.specs.Session.{SessionCame, finished, quit, input_failed, too_long, output_failed, closing_failed, wanted_memory}
+use Rattle.line_server.specs.Session.{HasStopped, SessionCame, finished, quit, input_failed, too_long, output_failed, closing_failed, wanted_memory}
 use Rattle.line_server.specs.Request.{request_of}
 use Rattle.line_server.specs.Turn.{Surroundings}
 use Rattle.line_server.specs.Writing.{Stream, WritesAll, WritesBeginning}
 use Rattle.certificate_verbs.proofs.HandedOn.{counts_rise, count_rises}
 use Rattle.line_server.specs.declared.ends.SessionEnd.{SessionEnd}
+use Rattle.line_server.specs.declared.ends.Stop.{Stop}
+use Rattle.line_server.specs.declared.ends.Stop.TheVariants.{OutputFailed, NoMemory as WantsMemory}
 use Rattle.certificate_verbs.specs.Printed.{print_in, printed_by}
 use Rattle.certificate_verbs.specs.Finishing.{Print, Finish, prints, serves, unread_printed}
 use Rattle.certificate_verbs.specs.declared.ended.Ended.{Ended}
@@ -133,6 +135,21 @@ wanted_rise before after lines written written_after wanted =
       left_rise wanted.between after wanted.later wanted.left,
     )
 
+stopped_rise : (before after : Surroundings SessionPoint) (seen : List ℕ) (why : Stop) → HasStopped history_machine before after seen why
+    → before.state.faults ≤ after.state.faults
+stopped_rise before after seen OutputFailed has =
+    omega (
+      arith,
+      counts_rise before.state has.between.state _ has.served.text _ has.served.answered,
+      failed_rise has.between.state after.state _ _ _ has.stops.0,
+    )
+stopped_rise before after seen WantsMemory has =
+    omega (
+      arith,
+      counts_rise before.state has.between.state _ has.served.text _ has.served.answered,
+      wanted_rise has.between.state after.state _ _ _ has.stops.0,
+    )
+
 came_rises : (before after : Surroundings SessionPoint) (seen : List ℕ) (end : SessionEnd)
     → SessionCame history_machine before after seen end → before.state.faults ≤ after.state.faults
 came_rises before after seen end (finished text quits read none answered wrote stand) =
@@ -142,10 +159,10 @@ came_rises before after seen end (input_failed text read answered wrote rises ou
     counts_rise before.state after.state _ text _ answered
 came_rises before after seen end (too_long text byte whole_ read answered wrote stand) =
     counts_rise before.state after.state _ text _ answered
-came_rises before after seen end (output_failed read failed input rises) = failed_rise before.state after.state _ _ _ failed
+came_rises before after seen end (output_failed has) = stopped_rise before after seen _ has
 came_rises before after seen end (closing_failed text closing fails answered wrote rises) =
     counts_rise before.state after.state _ text _ answered
-came_rises before after seen end (wanted_memory read wanted stand) = wanted_rise before.state after.state _ _ _ wanted
+came_rises before after seen end (wanted_memory has) = stopped_rise before after seen _ has
 
 serves_rise : (begun : Beginning) (shelf shelf_after : ShelfState) (before after : Streams) (answer : Ended)
     → ServesSession begun shelf shelf_after before after answer → shelf.faults ≤ shelf_after.faults

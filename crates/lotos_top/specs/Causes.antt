@@ -1,12 +1,14 @@
 -- Each answer of a run comes where its cause stands, and where a cause stands its answer comes. Want of memory alone may come at any
 -- time.
-use Rattle.std.specs.Prelude.{◌≡◌, ◌⊎◌, ℕ, ◌+◌, ◌<◌, List, ◌++◌, length, Option, None, Some, IfSome, IsSomeAnd}
+use Rattle.std.specs.Prelude.{◌≡◌, ◌≢◌, ◌⊎◌, ℕ, ◌+◌, ◌<◌, List, ◌++◌, length, Option, None, Some, IfSome}
 use Rattle.lotos_base.specs.Counts.{Rises}
-use Rattle.certificate_verbs.specs.HandedOn.{ShelfState, CommandLine, session, demonstration}
+use Rattle.certificate_verbs.specs.HandedOn.{ShelfState, Did, unread, CommandLine, session, demonstration, unread_text}
 use Rattle.line_server.specs.Limits.{input_limit}
 use Rattle.certificate_verbs.specs.declared.ended.Ended.{Ended}
 use Rattle.certificate_verbs.specs.declared.ended.Ended.TheVariants.{WordsRefused, FileFault, InputFault, OutputFault, NoMemory, InputTooLong}
+use Rattle.line_server.specs.Writing.{WritesAll}
 use Rattle.lotos_top.specs.Run.{Streams}
+use Rattle.lotos_top.specs.Work.{work_of}
 
 -- another answer stands in the place of this one: the output failed at its text, or memory was wanted
 abbrev pub GivesWay : Ended → Type 0
@@ -27,10 +29,17 @@ abbrev pub IsDemonstration : Option CommandLine → Type 0
 IsDemonstration (Some (demonstration cells)) = Unit {0}
 IsDemonstration line = ⊥
 
--- a file could not be got: the shelf counted a fault, or it tells its texts and lacks one
-abbrev pub IsUnread : (shelf shelf_after : ShelfState) → Type 0
-IsUnread shelf shelf_after =
-    Rises shelf.faults shelf_after.faults ⊎ ((name : List ℕ) × IsSomeAnd shelf.texts (λ texts. texts name ≡ None))
+-- The file of the name could not be got, for which the work asks behind others. The shelf gave each of those by one call, and then it
+-- had one call more, for that name: there it counted a fault, or it tells its texts and has none of the name.
+abbrev pub IsUnread : Option CommandLine → (shelf shelf_after : ShelfState) → (name : List ℕ) → Type 0
+IsUnread line shelf shelf_after name = Did shelf shelf_after (work_of line) (unread name)
+
+-- that file is the one whose name is printed, and the input is untouched
+pub record IsUnreadPrinted (line : Option CommandLine) (shelf shelf_after : ShelfState) (before after : Streams) : Type 0 where
+  pub name : List ℕ
+  pub unread_is : IsUnread line shelf shelf_after name
+  pub printed : WritesAll before.output.bytes after.output.bytes (unread_text name)
+  pub input_kept : after.input ≡ before.input
 
 -- Words that are no line are answered so, and nothing else is; likewise a file that could not be got, a fault of the input, one of
 -- the output, and byte 16,777,217 of a session. A failed output, or want of memory, may stand in the place of the others. No text of
@@ -40,10 +49,11 @@ pub record AnswersHaveCauses (line : Option CommandLine) (shelf shelf_after : Sh
   -- the words are no line
   pub words : answer ≡ WordsRefused → line ≡ None
   pub no_line : line ≡ None → (answer ≡ WordsRefused) ⊎ GivesWay answer
-  -- a file could not be got, or the text of a demonstration asks for one, for which nothing is asked of the shelf; and the input is
-  -- untouched
-  pub files : answer ≡ FileFault → (IsUnread shelf shelf_after ⊎ IsDemonstration line) × (after.input ≡ before.input)
+  -- a file could not be got, whose name is printed
+  pub files : answer ≡ FileFault → IsUnreadPrinted line shelf shelf_after before after
   pub shelf_fault : shelf.faults < shelf_after.faults → (answer ≡ FileFault) ⊎ GivesWay answer ⊎ ServesLines line
+  -- a demonstration asks for no file, and nothing of the shelf
+  pub no_file : IsDemonstration line → (answer ≢ FileFault) × (shelf_after ≡ shelf)
   -- the input counted a fault
   pub input : answer ≡ InputFault → Rises before.input.faults after.input.faults
   pub input_fault : before.input.faults < after.input.faults → (answer ≡ InputFault) ⊎ (answer ≡ OutputFault)

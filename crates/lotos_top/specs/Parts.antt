@@ -1,8 +1,8 @@
 -- Parts of the work, of which the lines of words are made.
-use Rattle.std.specs.Prelude.{◌≡◌, ◌⊎◌, ℕ, List, []}
+use Rattle.std.specs.Prelude.{◌≡◌, []}
 use Rattle.certificate_verbs.specs.HandedOn.{Asked, Acceptance, IsAccepted, goes_on, unread, stops, wants_memory, Part, Then, Telling}
 use Rattle.certificate_verbs.specs.HandedOn.{Refused, Beginning}
-use Rattle.certificate_verbs.specs.Finishing.{Print, Finish, unread_printed, refusal_printed}
+use Rattle.certificate_verbs.specs.Finishing.{Print, Finish, refusal_printed}
 use Rattle.lotos_top.specs.Opening.{SessionBegins}
 
 -- something with this property, for which no file is got, and which nothing refuses
@@ -20,10 +20,9 @@ OpensSession accepts = Then accepts (λ acceptance. Finds (SessionBegins accepta
 abbrev pub OpensAsked : Asked → Part Print Beginning
 OpensAsked asked = Telling (refusal_printed asked.spec asked.order) (OpensSession (IsAccepted asked))
 
--- The same part where there is no file: none is got, and where one is asked for, the line that it could not be got is printed.
+-- The same part where no file is got, and none is lacking.
 abbrev pub WithoutFiles : Part Print Finish → Part Print Finish
 WithoutFiles whole files (goes_on finish) = (files ≡ []) × whole [] (goes_on finish)
 WithoutFiles whole files (unread name) = ⊥
-WithoutFiles whole files (stops p) = (files ≡ []) × (whole [] (stops p) ⊎
-    ((name : List ℕ) × whole [] (unread name) × (p ≡ unread_printed name)))
+WithoutFiles whole files (stops p) = (files ≡ []) × whole [] (stops p)
 WithoutFiles whole files wants_memory = files ≡ []

@@ -49,6 +49,12 @@ IsMadeReady made given = MatchResult made (λ alone. given ≡ Ok (ready.Alone a
 
 -- ---- Faults of the code
 
+-- no file is lacking
+abbrev pub NamesNoFile : NotAccepted → Type 0
+NamesNoFile (File name) = ⊥
+NamesNoFile (Refuses found) = Unit {0}
+NamesNoFile NoMemory = Unit {0}
+
 -- this came of a part where no file is
 abbrev pub FailsAlone : {B : Type 0} → Part Refused B → NotAccepted → Type 0
 FailsAlone whole (File name) = whole [] (unread name.items)

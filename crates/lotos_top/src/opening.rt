@@ -23,6 +23,7 @@ ghost use Rattle.certificate_verbs.specs.HandedOn.{
   usage_text,
   words_of,
 };
+ghost use Rattle.certificate_verbs.specs.Printed.{IsFaultPrinted, print_in};
 ghost use Rattle.certificate_verbs.specs.declared.ended.Ended.TheVariants.{
   Done as done,
   WordsRefused as words_refused,
@@ -36,6 +37,7 @@ ghost use Rattle.lotos_top.specs.Prepared.{
   IsLawfulAt,
   IsMadeReady,
   IsReady,
+  NamesNoFile,
   begun,
 };
 ghost use Rattle.sort_terms.specs.EquationView.{data_of};
@@ -51,6 +53,7 @@ ghost use Rattle.std.specs.Prelude.{
   IsTrue,
   MatchResult,
   OnOk,
+  codes,
   option_map,
 };
 
@@ -302,7 +305,7 @@ pub fn opened_alone(alloc: Global, opened: &Opened) -> Result<Alone, NoMemory>
     })
 }
 
-// Makes ready what `demo` prints. Nothing is asked of the shelf.
+// Makes ready what `demo` prints. Nothing is asked of the shelf, and no file is lacking.
 fn demonstrated(alloc: Global, cells: u32) -> Result<Ready, NoMemory>
     ensures { (now : ShelfState) → MatchResult result
         (IsReady (Some (demonstration cells)) now now)
@@ -311,7 +314,20 @@ fn demonstrated(alloc: Global, cells: u32) -> Result<Ready, NoMemory>
     let text = demo_text(alloc, cells)?;
     match open_text(alloc, text.as_slice()) {
         Ok(mut opened) => ready_alone(summary_alone(alloc, &mut opened, cells)),
-        Err(fault) => ready_alone(failed_alone(alloc, "demo", None, &fault)),
+        Err(fault) => ready_alone(refused_demonstration(alloc, &fault)),
+    }
+}
+
+// What is printed for a demonstration that is refused. Its text mentions no library that is not
+// shipped, so it asks for no file; where it did, memory would be said to be wanted.
+fn refused_demonstration(alloc: Global, fault: &NotAccepted) -> Result<Alone, NoMemory>
+    ensures { IfOk result (λ alone. NamesNoFile fault.now
+        × IsFaultPrinted (codes "demo") None fault.now (print_in alone)) }
+{
+    match fault {
+        NotAccepted::File { .. } => Err(NoMemory),
+        NotAccepted::Spec(_) => failed_alone(alloc, "demo", None, fault),
+        NotAccepted::NoMemory => Err(NoMemory),
     }
 }
 

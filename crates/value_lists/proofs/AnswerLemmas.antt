@@ -1,6 +1,6 @@
 -- What the answers of the code are, by what they list.
 use Rattle.std.proofs.Common.{◌≡◌, ◌⊎◌, ℕ, ◌<◌, ◌≤◌, List, [], ◌∷◌, ◌++◌, Some, length, codes, inl, inr, refl, ap, sym, ◌∙◌, subst, arith}
-use Rattle.lotos_base.specs.Equation.{Data, HasSortedSides}
+use Rattle.lotos_base.specs.Equation.{Data}
 use Rattle.lotos_base.specs.Signature.{Signature}
 use Rattle.lotos_base.specs.Term.{Term}
 use Rattle.lotos_base.specs.declared.names.Name.{Name}
@@ -127,14 +127,14 @@ module _ (basis : SessionBasis) (data_ : Data) (canon : Term → Term) (gates : 
   }
 
   pub instances_added : (signature : code.Signature) (tuples : List (List Term)) (before after : List ℕ)
-      → signature_of signature ≡ data_.signature → HasSortedSides data_ → found.ListsInstances data_ entry choices tuples
+      → signature_of signature ≡ data_.signature → found.ListsInstances data_ entry choices tuples
       → tuple_count choices ≤ MAX_INSTANCES
       → after ≡ before ++ instance_list_text (printing_with signature gates canon) number (plain_entry entry) tuples
       → AddsInstances before after
-  instances_added signature tuples before after shown sides lists few added = (
+  instances_added signature tuples before after shown lists few added = (
     listed (record { entry = plain_entry entry; tuples = tuples }),
     has_instances (plain_entry entry) choices tuples at has.may has.are few
-        (instances_same basis entry size choices tuples (inl (subst HasSortedSides is.same_data sides)) has.are
+        (instances_same basis entry size choices tuples has.are
         (subst (λ (it : Data). found.ListsInstances it entry choices tuples) is.same_data lists)),
     added
         ∙ ap (λ (it : Printing). before ++ instance_list_text it number (plain_entry entry) tuples) (printed_alike signature shown),

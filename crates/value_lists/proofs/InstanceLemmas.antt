@@ -102,9 +102,9 @@ sifted_more data_ entry choices number one old new so_far is tried =
 -- ---- All tuples
 
 pub all_tuples : (data_ : Data) (entry : Entry) (choices : Lists) (count : ℕ) (found : Lists)
-    → count ≡ tuple_count (profiled_lists_in choices)
+    → count ≡ tuple_count (profiled_lists_in choices) → HasSortedTests data_ entry
     → SiftedUpTo data_ entry choices count found → ListsInstances data_ entry (term_lists_of choices) (term_lists_of found)
-all_tuples data_ entry choices count found is sifted = record {
+all_tuples data_ entry choices count found is told sifted = record {
   sound = λ ts h.
       let there =
       sifted_sound (HasSortedTests data_ entry) (MeetConditions data_ entry) (λ k. tuple_at (term_lists_of choices) k (variable 0 0))
@@ -114,7 +114,7 @@ all_tuples data_ entry choices count found is sifted = record {
             (at_is_tuple (term_lists_of choices) there.0 (variable 0 0) (omega (arith, less, is, same))),
         there.3,
       );
-  complete = λ told ts tuple meets.
+  complete = λ ts tuple meets.
       let there = number_of (term_lists_of choices) ts (variable 0 0) tuple in
       let less = there.1 in
       subst (λ (us : List Term). Contains (term_lists_of found) us) there.2

@@ -14,7 +14,6 @@ use Rattle.event_offers.specs.OfferView.{plain_entry}
 use Rattle.event_offers.specs.declared.drafts.Entry.{Entry}
 use Rattle.session_histories.specs.Session.{SessionBasis}
 use Rattle.value_lists.specs.InstanceList as found
-use Rattle.value_lists.specs.InstanceList.{HasSortedTests}
 use Rattle.value_lists.specs.Tuples.{IsTuple}
 use Rattle.value_lists.specs.ValueList.{AreValueLists, HasMoreValues, HasUpToValues, IsValueList, IsValueWithin, IsWholeList}
 use Rattle.value_lists.proofs.ClassLemmas.{stays_itself}
@@ -72,9 +71,9 @@ tuple_sorted signature Irreducible limit (sort ∷ sorts) (list ∷ lists) (t �
 
 -- the tuples that meet the conditions are the instances
 pub instances_same : (basis : SessionBasis) (entry : Entry) (size : ℕ) (choices tuples : List (List Term))
-    → HasSortedTests basis.data_ entry → AreListsOf basis size entry.vars.items choices
+    → AreListsOf basis size entry.vars.items choices
     → found.ListsInstances basis.data_ entry choices tuples → IsInstanceList basis (plain_entry entry) choices tuples
-instances_same basis entry size choices tuples told are lists = record {
+instances_same basis entry size choices tuples are lists = record {
   exactly = λ values. (
     λ there. (
       (lists.sound values there).0,
@@ -83,7 +82,7 @@ instances_same basis entry size choices tuples told are lists = record {
         met = (lists.sound values there).1;
       },
     ),
-    λ is. lists.complete told values is.0 is.1.met,
+    λ is. lists.complete values is.0 is.1.met,
   );
   rising = lists.rising;
 }

@@ -49,12 +49,10 @@ MeetConditions data_ entry ts = AllHold data_ (map (test_with (leaves_in ts)) (c
 abbrev pub HasSortedTests : Data → Entry → Type 0
 HasSortedTests data_ entry = HasSortedSides data_ ⊎ HaveOneSort (condition_profiles entry.conditions.items)
 
--- The list has exactly the tuples of these lists that meet the conditions of the entry, in order. (That it has all of them is
--- told of data whose equations have sides of one sort, and of an entry whose conditions have.)
+-- The list has exactly the tuples of these lists that meet the conditions of the entry, in order.
 pub record ListsInstances (data_ : Data) (entry : Entry) (choices : List (List Term)) (tuples : List (List Term)) : Type 0 where
   pub sound : (ts : List Term) → Contains tuples ts → IsTuple choices ts × MeetConditions data_ entry ts
-  pub complete : HasSortedTests data_ entry → (ts : List Term) → IsTuple choices ts → MeetConditions data_ entry ts
-      → Contains tuples ts
+  pub complete : (ts : List Term) → IsTuple choices ts → MeetConditions data_ entry ts → Contains tuples ts
   pub rising : AllPairs (TupleBefore choices) tuples
 
 -- Each of the tuples is a list of values for these variables.

@@ -9,6 +9,7 @@ ghost use Rattle.value_lists.specs.FaultMeaning.{FaultMeans};
 ghost use Rattle.value_lists.specs.InstanceList.{
   AreChoices,
   AreTuplesOver,
+  HasSortedTests,
   term_lists_of,
   ListsInstances,
   profiled_lists_in,
@@ -27,8 +28,8 @@ use sort_terms::{Deciding, Sorted};
 /// its conditions, in the order of the lists, the first variable changing slowest. There is a list
 /// for each variable, of ground terms of its sort; where no list has a term twice, no tuple comes
 /// twice. An entry without variables has one instance, the empty tuple, if its conditions hold.
-/// (That all tuples that meet the conditions are listed is told of data whose equations have sides
-/// of one sort, and of an entry whose conditions have.)
+///
+/// The equations of the data have sides of one sort, or the conditions of the entry have.
 ///
 /// `TooManyInstances` comes exactly where the product of the lengths of the lists is above 100,000,
 /// before any tuple is made. So at most 100,000 tuples are made, one after the other.
@@ -40,6 +41,7 @@ pub fn instances_of<D: Deciding>(
     requires over { IsEntryOf (D.known_data decider.old).signature entry.now }
     requires choices { AreChoices (D.known_data decider.old).signature entry.now.vars.items
         (profiled_lists_in choices.now) }
+    requires tested { HasSortedTests (D.known_data decider.old) entry.now }
     ensures instances { IfOk result (λ tuples. ListsInstances (D.known_data decider.old) entry.now
         (term_lists_of choices.now) (term_lists_of tuples.items)) }
     ensures values { IfOk result (λ tuples. AreTuplesOver (D.known_data decider.old).signature
@@ -66,6 +68,7 @@ fn instances_among<D: Deciding>(
     requires over { IsEntryOf (D.known_data decider.old).signature entry.now }
     requires choices { AreChoices (D.known_data decider.old).signature entry.now.vars.items
         (profiled_lists_in choices.now) }
+    requires tested { HasSortedTests (D.known_data decider.old) entry.now }
     requires count { count ≡ tuple_count (profiled_lists_in choices.now) }
     ensures instances { IfOk result (λ tuples. ListsInstances (D.known_data decider.old) entry.now
         (term_lists_of choices.now) (term_lists_of tuples.items)) }

@@ -4,7 +4,7 @@ use Rattle.certificate_verbs.specs.HandedOn.{AcceptsText, IsSummary, demonstrati
 use Rattle.certificate_verbs.specs.Printed.{print_in, IsFaultPrinted}
 use Rattle.certificate_verbs.specs.declared.ended.Ended.TheVariants.{Done}
 use Rattle.certificate_verbs.specs.declared.printing.Alone.{Alone}
-use Rattle.lotos_top.specs.Prepared.{begun, CameTo, FailsAlone, IsReady}
+use Rattle.lotos_top.specs.Prepared.{begun, CameTo, FailsAlone, IsReady, NamesNoFile}
 use Rattle.lotos_top.specs.Parts.{OpensSession}
 use Rattle.lotos_top.proofs.OpeningLemmas.{made_ready, opened_at_start, demo_ready, demo_fault, demo_came}
 use Rattle.lotos_top.proofs.opening.demonstrated.Goals as goal
@@ -35,13 +35,13 @@ returns-in-Ok c = λ now.
 
 pub returns : goal.returns
 returns c = λ now.
-    made_ready c.failed_alone.result c.ready_alone-in-Err.result
-    (λ (alone : Alone). IsFaultPrinted (codes "demo") None c.in-Err.fault (print_in alone))
+    made_ready c.refused_demonstration.result c.ready_alone-in-Err.result
+    (λ (alone : Alone). NamesNoFile c.in-Err.fault × IsFaultPrinted (codes "demo") None c.in-Err.fault (print_in alone))
     (IsReady (Some (demonstration c.args.cells)) now now)
     (CameTo (Some (demonstration c.args.cells)) now now)
-    c.ready_alone-in-Err.ensures c.failed_alone.ensures
+    c.ready_alone-in-Err.ensures c.refused_demonstration.ensures
     (λ alone is. demo_fault c.args.cells now c.in-Err.fault alone
     (subst (λ (text : List ℕ). FailsAlone (OpensSession (AcceptsText text None [])) c.in-Err.fault)
     (c.as_slice.ensures.value ∙ c.in_ok-text.ensures) c.in-Err.ensures)
-    is)
+    is.0 is.1)
     (demo_came c.args.cells now)

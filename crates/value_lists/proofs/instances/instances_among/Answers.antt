@@ -37,7 +37,7 @@ pub returns-clause-instances : goal.returns-clause-instances
 returns-clause-instances g c =
     let done : c.loop-number.number ≡ c.args.count = omega arith in
     all_tuples (g.D.Deciding.known_data c.args.decider.now) c.args.entry.now c.args.choices.now c.args.count c.loop-number.found.items
-    c.requires.count
+    c.requires.count c.requires.tested
     (subst (λ (n : ℕ). SiftedUpTo (g.D.Deciding.known_data c.args.decider.now) c.args.entry.now c.args.choices.now n
     c.loop-number.found.items)
     done c.loop-number.invariant.0)

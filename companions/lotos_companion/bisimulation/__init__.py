@@ -1,0 +1,1 @@
+"""Two specifications compared: certificates of bisimulation that are found, and scenarios that tell them apart."""

@@ -1,0 +1,1 @@
+"""The scenarios and sessions of a project as its tests."""
