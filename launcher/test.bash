@@ -53,7 +53,7 @@ test_all() {
     for name in statuses lines order examples flattened pages; do try_script "$name"; done
     try_script tables --check
     try_script layers --check
-    for name in surface sizes launcher companions large; do try_script "$name"; done
+    for name in surface answers sizes launcher companions large; do try_script "$name"; done
     count 0
 }
 
@@ -89,6 +89,7 @@ test_quick() {
     try_script tables --check
     try_script layers --check
     try_script surface
+    try_script answers
     try_script sizes
     try_script companions "$tested"
     count 0

@@ -1,8 +1,8 @@
 # shellcheck shell=bash
 # `lotos test` counts what `rt ci` counts and one for each script of .ci; `lotos test quick` tries the program that stands.
 
-all="statuses lines order examples flattened pages tables layers surface sizes launcher companions large"
-quick="statuses lines order examples flattened pages run_cases tables layers surface sizes companions"
+all="statuses lines order examples flattened pages tables layers surface answers sizes launcher companions large"
+quick="statuses lines order examples flattened pages run_cases tables layers surface answers sizes companions"
 # How many they are: those of all tests with the three that `rt ci` counts, and those of the quick ones.
 # shellcheck disable=SC2086
 count_all=$(($(printf '%s\n' $all | wc -l) + 3)) count_quick=$(printf '%s\n' $quick | wc -l)
