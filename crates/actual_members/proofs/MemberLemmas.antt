@@ -14,7 +14,7 @@ use Rattle.sort_terms.specs.WellFormedTest.{all_differ}
 use Rattle.sort_terms.specs.Operations.{operation_of}
 use Rattle.sort_terms.specs.declared.operations.Op.{Op as CodeOp}
 use Rattle.type_presentations.specs.NamesView.{HasNames}
-use Rattle.type_pairs.specs.PairIndexView.{pairs_in}
+use Rattle.type_presentations.specs.PairIndexView.{pairs_in}
 use Rattle.type_presentations.proofs.AddedLemmas.{by_operation, by_sort}
 use Rattle.type_presentations.proofs.KeptLemmas.{one_more}
 use Rattle.type_presentations.proofs.KeyedLemmas.{itself_by_key}

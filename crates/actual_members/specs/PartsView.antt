@@ -8,9 +8,9 @@ use Rattle.type_definitions.specs.Actualisation.{Actualising, actualised_sort}
 use Rattle.type_definitions.specs.ProfiledImage.{number_in}
 use Rattle.type_presentations.specs.NamesView.{HasNames}
 use Rattle.type_presentations.specs.declared.names.NamePositions.{NamePositions}
-use Rattle.type_pairs.specs.PairIndexView.{pairs_in}
-use Rattle.type_pairs.specs.PairNames.{names_of_sorts}
-use Rattle.type_pairs.specs.declared.pair_index.PairIndex.{PairIndex}
+use Rattle.type_presentations.specs.PairIndexView.{pairs_in}
+use Rattle.type_presentations.specs.PairNames.{names_of_sorts}
+use Rattle.type_presentations.specs.declared.pair_index.PairIndex.{PairIndex}
 use Rattle.type_presentations.specs.PresentationView.{presentation_of}
 use Rattle.type_presentations.specs.declared.presentations.Presentation.{Presentation}
 use Rattle.actual_members.specs.ProfilesView.{HasProfiles}

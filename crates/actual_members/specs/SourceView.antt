@@ -7,7 +7,7 @@ use Rattle.type_presentations.specs.NamesView.{HasNames}
 use Rattle.type_definitions.specs.Actualisation.{Actualising, actual_operation, actual_sort, actualised_sort, formal_operations_of, formal_sorts_of, operation_renamer, other_operation_image, other_sort_image, sort_renamer}
 use Rattle.type_definitions.specs.ActualisationFaults.{Coming}
 use Rattle.type_definitions.specs.ProfiledImage.{number_in}
-use Rattle.type_pairs.specs.PairIndexView.{pairs_in}
+use Rattle.type_presentations.specs.PairIndexView.{pairs_in}
 use Rattle.actual_members.specs.Actuals.{actuals_from}
 use Rattle.actual_members.specs.declared.source.Source.{Source}
 

@@ -35,7 +35,7 @@ ghost use Rattle.type_definitions.specs.Actualisation.{
 };
 ghost use Rattle.type_definitions.specs.ActualisationFaults.{formal_operation_fault};
 ghost use Rattle.type_definitions.specs.ProfiledImage.{number_in};
-ghost use Rattle.type_pairs.specs.PairIndexView.{pairs_in};
+ghost use Rattle.type_presentations.specs.PairIndexView.{pairs_in};
 ghost use Rattle.type_presentations.specs.PresentationView.{IsSound, IsWithinLimits};
 
 use crate::profile_index::ProfileIndex;
@@ -45,8 +45,7 @@ use sort_terms::Op;
 use std::alloc::Global;
 use syntax_trees::Named;
 use type_definitions::TypeFault;
-use type_pairs::PairIndex;
-use type_presentations::{OperationList, Presentation};
+use type_presentations::{OperationList, PairIndex, Presentation};
 
 /// The number of the actual operation of each formal operation of the base, among the operations of
 /// the actual types, and none for the other operations. One of the form of the formal one is taken

@@ -33,8 +33,8 @@ ghost use Rattle.type_definitions.specs.ActualisationFaults.{formal_sort_fault};
 ghost use Rattle.type_definitions.specs.Declarations.{sort_numbered};
 ghost use Rattle.type_definitions.specs.Presentation.{Presentation as PlainPresentation};
 ghost use Rattle.type_definitions.specs.TypeFault.{missing_actual, unknown_sort};
-ghost use Rattle.type_pairs.specs.PairIndexView.{pairs_in};
-ghost use Rattle.type_pairs.specs.PairNames.{names_of_sorts};
+ghost use Rattle.type_presentations.specs.PairIndexView.{pairs_in};
+ghost use Rattle.type_presentations.specs.PairNames.{names_of_sorts};
 ghost use Rattle.type_presentations.specs.PresentationView.{IsSound, IsWithinLimits};
 
 use lotos_base::{Name, NoMemory};
@@ -42,8 +42,7 @@ use sort_terms::Sort;
 use std::alloc::Global;
 use syntax_trees::{Named, PairText};
 use type_definitions::TypeFault;
-use type_pairs::PairIndex;
-use type_presentations::{NamePositions, Presentation, SortList};
+use type_presentations::{NamePositions, PairIndex, Presentation, SortList};
 
 /// The number of the actual sort of each formal sort of the base, among the sorts of the actual
 /// types, and none for the other sorts. It is refused at the first formal sort without an actual

@@ -25,4 +25,4 @@ pub use operations::bring_ops;
 pub use profile_index::ProfileIndex;
 pub use sorts::bring_sorts;
 pub use source::Source;
-pub use type_pairs::{PairIndex, look_at_actual_sort_pairs, look_at_op_pairs};
+pub use type_presentations::{PairIndex, look_at_actual_sort_pairs, look_at_op_pairs};

@@ -8,13 +8,13 @@ ghost use Rattle.std.specs.Prelude.{◌≡◌, IfOk};
 ghost use Rattle.type_definitions.specs.Actualisation.{actual_name, other_form};
 ghost use Rattle.type_definitions.specs.Renaming.{pair_for};
 ghost use Rattle.type_definitions.specs.ProfiledImage.{number_in};
-ghost use Rattle.type_pairs.specs.PairIndexView.{pairs_in};
+ghost use Rattle.type_presentations.specs.PairIndexView.{pairs_in};
 
 use lotos_base::{Form, Name, NoMemory};
 use sort_terms::Op;
 use std::alloc::Global;
 use type_definitions::op_image;
-use type_pairs::PairIndex;
+use type_presentations::PairIndex;
 
 /// The name that something formal has among the actual types: that of its pair, or its own.
 pub fn name_among_actuals(

@@ -9,13 +9,12 @@ ghost use Rattle.std.specs.Prelude.{◌≡◌, ℕ, IfOk, List};
 ghost use Rattle.syntax_trees.specs.TreeViews.{pair_of};
 ghost use Rattle.type_definitions.specs.Actualisation.{pair_unless};
 ghost use Rattle.type_definitions.specs.Renaming.{pair_for};
-ghost use Rattle.type_pairs.specs.PairIndexView.{pairs_in};
+ghost use Rattle.type_presentations.specs.PairIndexView.{pairs_in};
 
 use lotos_base::{Name, NoMemory};
 use std::alloc::Global;
 use syntax_trees::{Named, PairText};
-use type_pairs::PairIndex;
-use type_presentations::NamePositions;
+use type_presentations::{NamePositions, PairIndex};
 
 /// What renames the sorts of a base that are not formal, or its operations.
 #[derive(Drop)]

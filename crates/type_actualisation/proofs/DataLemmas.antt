@@ -1,7 +1,7 @@
 -- The data of an actualisation are well formed.
 use Rattle.std.proofs.Common.{◌≡◌, ℕ, true, List, ◌⊎◌, inl, inr, map, ap, sym, ◌∙◌, subst}
 use Rattle.std.specs.Prelude.{Some, slice_get}
-use Rattle.type_unions.proofs.UnionSignatures.{image_in}
+use Rattle.type_presentations.proofs.UnionSignatures.{image_in}
 use Rattle.lotos_base.specs.Signature.{Operation, IsSort, IsWellFormedSignature}
 use Rattle.lotos_base.specs.Equation.{Equation, IsEquationOver, IsWellFormedData}
 use Rattle.sort_terms.specs.WellFormedTest.{all_differ, are_one_sort, are_one_operation}

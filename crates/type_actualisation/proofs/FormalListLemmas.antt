@@ -29,8 +29,8 @@ use Rattle.type_presentations.specs.PresentationView.{presentation_of}
 use Rattle.type_presentations.specs.declared.equation_list.EquationList.{EquationList}
 use Rattle.type_presentations.specs.declared.presentations.Presentation.{Presentation as CodePresentation}
 use Rattle.type_actualisation.specs.declared.bringing.NewNumbers.{NewNumbers}
-use Rattle.type_unions.proofs.UnionData.{AreMapsOfUnion, images_by_lists}
-use Rattle.type_unions.proofs.UnionSignatures.{image_in, union_is_larger, union_maps}
+use Rattle.type_presentations.proofs.UnionData.{AreMapsOfUnion, images_by_lists}
+use Rattle.type_presentations.proofs.UnionSignatures.{image_in, union_is_larger, union_maps}
 use Rattle.type_actualisation.specs.FormalLists.{AreFormalsOver, AreMoved, HaveJoined, IsUnionWith, with_list, with_members}
 use Rattle.type_actualisation.specs.declared.formal_lists.FormalUnion.{FormalUnion}
 

@@ -3,7 +3,7 @@ use Rattle.std.proofs.Common.{◌≡◌, ℕ, ◌+◌, ◌<◌, Bool, true, fals
 use Rattle.std.specs.Prelude.{Option, Some, None, slice_get, if◌then◌else◌}
 use Rattle.std.specs.Option.{option_map}
 use Rattle.std.proofs.lemmas.Option.{slice_get_within, slice_get-get_or, slice_get-map, get_or_from_slice_get}
-use Rattle.type_unions.proofs.UnionSignatures.{one_profile}
+use Rattle.type_presentations.proofs.UnionSignatures.{one_profile}
 use Rattle.lotos_base.proofs.Members.{as_long}
 use Rattle.lotos_base.specs.Signature.{Sort, Operation}
 use Rattle.syntax_trees.specs.WrittenItem.{WrittenPair}

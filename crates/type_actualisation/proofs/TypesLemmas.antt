@@ -18,7 +18,7 @@ use Rattle.type_presentations.specs.PresentationView.{presentation_of}
 use Rattle.type_presentations.specs.declared.presentations.Presentation.{Presentation as CodePresentation}
 use Rattle.type_presentations.specs.PositionOfName.{position_of_name}
 use Rattle.type_presentations.specs.declared.equation_list.EquationList.{EquationList}
-use Rattle.type_unions.specs.PresentedView.{AreSoundTypes, presented_in}
+use Rattle.type_presentations.specs.PresentedView.{AreSoundTypes, presented_in}
 use Rattle.type_actualisation.specs.FormalLists.{AreFormalsOver, IsUnionWith}
 use Rattle.type_actualisation.specs.FormalTypesView.{AreAllFormals, AreFormalTypes, AreFormalsOfType, IsListNamed, list_at}
 use Rattle.type_actualisation.specs.declared.formal_types.FormalTypes.{FormalTypes}

@@ -16,7 +16,7 @@ use Rattle.type_definitions.specs.Union.{union_fault, union_of}
 use Rattle.type_presentations.specs.EquationListView.{HasEquationKeys, HasSidesOver, equations_in}
 use Rattle.type_presentations.specs.NamesView.{HasNames}
 use Rattle.type_presentations.specs.declared.equation_list.EquationList.{EquationList}
-use Rattle.type_unions.specs.PresentedView.{AreSoundTypes, presented_in}
+use Rattle.type_presentations.specs.PresentedView.{AreSoundTypes, presented_in}
 use Rattle.type_actualisation.specs.FormalLists.{AreFormalsOver, IsUnionWith}
 use Rattle.type_actualisation.specs.declared.formal_lists.FormalUnion.{FormalUnion}
 use Rattle.type_actualisation.specs.declared.formal_types.FormalTypes.{FormalTypes}

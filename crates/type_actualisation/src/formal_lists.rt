@@ -23,7 +23,7 @@ ghost use Rattle.type_presentations.specs.EquationListView.{equations_in};
 ghost use Rattle.type_presentations.specs.OperationListView.{HasOperationKeys, operations_in};
 ghost use Rattle.type_presentations.specs.PresentationView.{IsWithinLimits, presentation_of};
 ghost use Rattle.type_presentations.specs.SortListView.{HasSortKeys, sorts_in};
-ghost use Rattle.type_unions.specs.PresentedView.{IsSoundPresentation};
+ghost use Rattle.type_presentations.specs.PresentedView.{IsSoundPresentation};
 
 use crate::bringing::NewNumbers;
 use lotos_base::NoMemory;

@@ -17,15 +17,14 @@ ghost use Rattle.type_definitions.specs.TypeView.{declared_type_of};
 ghost use Rattle.type_actualisation.specs.FormalLists.{AreFormalsOver, IsUnionWith};
 ghost use Rattle.type_presentations.specs.EquationListView.{equations_in};
 ghost use Rattle.type_presentations.specs.PresentationView.{presentation_of};
-ghost use Rattle.type_unions.specs.PresentedView.{IsSoundPresentation};
+ghost use Rattle.type_presentations.specs.PresentedView.{IsSoundPresentation};
 
 use crate::formal_lists::FormalUnion;
 use lotos_base::{Name, NoMemory};
 use std::alloc::Global;
 use syntax_trees::Named;
 use type_definitions::TypeText;
-use type_presentations::{EquationList, NamePositions, Presentation};
-use type_unions::PresentedTypes;
+use type_presentations::{EquationList, NamePositions, Presentation, PresentedTypes};
 
 /// Types that have their presentations, in the order in which they were flattened, with their
 /// formal equations, found by their names.

@@ -19,7 +19,7 @@ use std::alloc::Global;
 use syntax_trees::Named;
 use type_definitions::TypeFault;
 use type_presentations::EquationList;
-use type_unions::faults::{double_operation, double_sort, too_large};
+use type_presentations::faults::{double_operation, double_sort, too_large};
 
 // How many equations a presentation has at most.
 const LIMIT: usize = 65_536;

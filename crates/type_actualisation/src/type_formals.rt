@@ -35,12 +35,12 @@ ghost use Rattle.type_presentations.specs.PresentationView.{
   IsWithinLimits,
   presentation_of,
 };
-ghost use Rattle.type_unions.specs.PresentedView.{
+ghost use Rattle.type_presentations.specs.PresentedView.{
   AreSoundTypes,
   IsSoundPresentation,
   presented_in,
 };
-ghost use Rattle.type_unions.specs.UnionMade.{IsUnited};
+ghost use Rattle.type_presentations.specs.UnionMade.{IsUnited};
 
 use crate::actualising::actualise_into;
 use crate::formal_lists::append_images;
@@ -50,9 +50,8 @@ use lotos_base::Name;
 use std::alloc::Global;
 use syntax_trees::{EqnsText, ItemBody, Named, PairText};
 use type_definitions::{TypeFault, TypeText};
-use type_presentations::{EquationList, Presentation};
+use type_presentations::{EquationList, Presentation, PresentedTypes, union_of_mentions};
 use type_renaming::numbers_below;
-use type_unions::{PresentedTypes, union_of_mentions};
 
 /// The formal equations of a type of this presentation and body, after the types that it mentions:
 /// of an extension those of its imports and then its own, of a renaming those of its base, of an

@@ -4,7 +4,7 @@ ghost use Rattle.lotos_base.specs.Name.{spelling};
 ghost use Rattle.sort_terms.specs.ReaderView.{signature_read};
 ghost use Rattle.sort_terms.specs.SignatureView.{signature_of};
 ghost use Rattle.std.specs.Prelude.{◌≡◌, MatchResult, OnOk};
-ghost use Rattle.type_declarations.specs.SectionView.{sections_of};
+ghost use Rattle.type_presentations.specs.SectionView.{sections_of};
 ghost use Rattle.type_definitions.specs.FaultView.{HoldsOfFault};
 ghost use Rattle.type_definitions.specs.DeclaredEquations.{GiveAll, HasFirstFault};
 ghost use Rattle.type_definitions.specs.Extension.{asked_of};
@@ -19,9 +19,8 @@ use crate::{add_section, check_section, sort_with_truth};
 use lotos_base::Name;
 use sort_terms::{Reader, Signature};
 use std::alloc::Global;
-use type_declarations::SectionTexts;
 use type_definitions::TypeFault;
-use type_presentations::Presentation;
+use type_presentations::{Presentation, SectionTexts};
 
 /// The presentation with the equations that the type of this name declares. Formal equations are
 /// checked first, and are no part of it.

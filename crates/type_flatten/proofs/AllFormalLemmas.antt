@@ -15,7 +15,7 @@ use Rattle.type_definitions.specs.Presentation.{Presentation, nothing}
 use Rattle.type_definitions.specs.Requirements.{HaveFormals, all_have_formals, flattened_with, informal_types, next_has_formals, with_required}
 use Rattle.type_definitions.specs.Union.{Mentioned, union_fault, union_of, with_mentioned}
 use Rattle.type_presentations.specs.EquationListView.{equations_in}
-use Rattle.type_unions.specs.PresentedView.{presented_in}
+use Rattle.type_presentations.specs.PresentedView.{presented_in}
 use Rattle.type_actualisation.specs.FormalLists.{AreFormalsOver, IsUnionWith}
 use Rattle.type_actualisation.specs.FormalTypesView.{AreFlattenedBehind, AreFormalTypes, AreRequiredInOrder, IsFlattenedNext, required_union}
 use Rattle.type_flatten.specs.RequiredView.{AreRequired}

@@ -16,9 +16,9 @@ use Rattle.type_definitions.specs.declared.type_faults.TypeFault.TheVariants.{Do
 use Rattle.type_definitions.proofs.HoldsLemmas.{holds_weaker}
 use Rattle.type_presentations.specs.PresentationView.{presentation_of}
 use Rattle.type_presentations.specs.declared.presentations.Presentation.{Presentation as CodePresentation}
-use Rattle.type_unions.specs.UnionMade.{IsUnited, IsUnionFault}
-use Rattle.type_unions.specs.PresentedView.{presented_in}
-use Rattle.type_unions.specs.declared.presented.PresentedTypes.{PresentedTypes}
+use Rattle.type_presentations.specs.UnionMade.{IsUnited, IsUnionFault}
+use Rattle.type_presentations.specs.PresentedView.{presented_in}
+use Rattle.type_presentations.specs.declared.presented.PresentedTypes.{PresentedTypes}
 use Rattle.sort_terms.specs.declared.equations.Flat.{Flat}
 use Rattle.type_flatten.specs.FlatView.{AreNamesFine, IsFlat, IsRefused, IsFirstTypeFault, IsPresentedNext, AreRefusedBehind, AreDataOf, AreUnited, AreNotUnited, AreDataOfTypes, IsFaultOfTypes, AreTypesRefused}
 

@@ -11,8 +11,8 @@ use Rattle.type_definitions.specs.Declarations.{with_sort, sort_fault, with_oper
 use Rattle.type_definitions.proofs.FaultLemmas.{none_first}
 use Rattle.type_presentations.proofs.GrowthLemmas.{data_in_larger, larger_by_sort, larger_by_operation, well_formed_with_sort}
 use Rattle.type_presentations.proofs.GrowthLemmas.{well_formed_with_operation}
-use Rattle.type_declarations.proofs.DeclareLemmas.{sorts_are_known}
-use Rattle.type_declarations.specs.DeclaredOperation.{declared_operation}
+use Rattle.type_presentations.proofs.DeclareLemmas.{sorts_are_known}
+use Rattle.type_presentations.specs.DeclaredOperation.{declared_operation}
 use Rattle.type_flatten.specs.FlattenedData.{IsFine}
 use Rattle.type_flatten.proofs.UnionsFine.{nothing_clashes, all_along}
 

@@ -3,7 +3,7 @@ pub use Rattle.type_actualisation.proofs.DataLemmas.{actualised_data}
 pub use Rattle.type_actualisation.proofs.MapLemmas.{image_there}
 pub use Rattle.type_actualisation.proofs.HandedOn.{image_in, union_data, sorts_there, give_both, give_append, gives_same, give_all_same, numbers_have}
 pub use Rattle.type_actualisation.proofs.HandedOn.{stands_there, comes, in_scope, occurs_numbered, adds_nothing, sides_over, scopes_numbered, variables_over, side_reads}
-pub use Rattle.type_declarations.proofs.DeclareLemmas.{sorts_are_known, none_fails}
+pub use Rattle.type_presentations.proofs.DeclareLemmas.{sorts_are_known, none_fails}
 pub use Rattle.type_presentations.proofs.AddedLemmas.{by_name, by_profile}
 pub use Rattle.type_presentations.proofs.EquationImageLemmas.{image_over, identity_image}
 pub use Rattle.type_presentations.proofs.GrowthLemmas.{data_in_larger, larger_by_sort, larger_by_operation, well_formed_with_sort}

@@ -20,8 +20,8 @@ use Rattle.type_definitions.specs.declared.type_faults.TypeFault.{TypeFault as C
 use Rattle.type_definitions.specs.declared.type_faults.TypeFault.TheVariants.{NoMemory}
 use Rattle.type_presentations.specs.PresentationView.{IsSound, IsWithinLimits, presentation_of}
 use Rattle.type_presentations.specs.declared.presentations.Presentation.{Presentation as CodePresentation}
-use Rattle.type_unions.specs.UnionMade.{IsUnited, IsUnionFault}
-use Rattle.type_declarations.specs.DeclarationMade.{IsDeclarationMade, IsDeclarationFault}
+use Rattle.type_presentations.specs.UnionMade.{IsUnited, IsUnionFault}
+use Rattle.type_presentations.specs.DeclarationMade.{IsDeclarationMade, IsDeclarationFault}
 use Rattle.type_actualisation.specs.Actualised.{IsActualised}
 use Rattle.type_actualisation.specs.HandedOn.{IsRenamed, IsRenamingFault}
 use Rattle.type_actualisation.proofs.OneFormalLemmas.{put_together}

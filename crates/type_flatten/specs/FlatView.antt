@@ -18,8 +18,8 @@ use Rattle.type_definitions.specs.declared.type_faults.TypeFault.{TypeFault}
 use Rattle.type_definitions.specs.declared.type_faults.TypeFault.TheVariants.{DoubleType, UnknownType, TypeCycle, DoubleSort, UnknownSort, DoubleOperation, UnknownOperation, NotFormal, MissingActual, TooLarge, Premised, Term, NoMemory}
 use Rattle.type_presentations.specs.PresentationView.{presentation_of, IsSound, IsWithinLimits}
 use Rattle.type_presentations.specs.declared.presentations.Presentation.{Presentation}
-use Rattle.type_unions.specs.PresentedView.{AreSoundTypes, presented_in}
-use Rattle.type_unions.specs.declared.presented.PresentedTypes.{PresentedTypes}
+use Rattle.type_presentations.specs.PresentedView.{AreSoundTypes, presented_in}
+use Rattle.type_presentations.specs.declared.presented.PresentedTypes.{PresentedTypes}
 
 -- ---- One type.
 

@@ -1,3 +1,3 @@
 -- What crates above this one need of the crates below it.
 pub use Rattle.type_actualisation.specs.ActualisationLaws.{HasActuals}
-pub use Rattle.type_declarations.specs.DeclaredOperation.{declared_operation}
+pub use Rattle.type_presentations.specs.DeclaredOperation.{declared_operation}

@@ -12,7 +12,7 @@ ghost use Rattle.type_flatten.specs.FlatView.{
   IsPresentedNext,
   IsRefused,
 };
-ghost use Rattle.type_unions.specs.PresentedView.{AreSoundTypes, presented_in};
+ghost use Rattle.type_presentations.specs.PresentedView.{AreSoundTypes, presented_in};
 ghost use Rattle.std.specs.Prelude.{◌≡◌, ◌∷◌, ◌++◌, [], IfOk, MatchResult, OnOk, map};
 ghost use Rattle.syntax_trees.specs.TreeViews.{item_of};
 ghost use Rattle.type_definitions.specs.Flattened.{types_at};
@@ -28,7 +28,7 @@ use sort_terms::Flat;
 use std::alloc::Global;
 use syntax_trees::ItemText;
 use type_definitions::{TypeFault, TypeNames, TypeOrder, TypeText, order_types};
-use type_unions::{PresentedTypes, union_of_mentions};
+use type_presentations::{PresentedTypes, union_of_mentions};
 
 /// The data of all types among the items in which nothing is formal: their union, in the order of
 /// flattening, which is text order, but each type after those that it mentions. Mentions of

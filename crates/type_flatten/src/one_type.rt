@@ -3,11 +3,11 @@
 ghost use Rattle.type_flatten.specs.FlatView.{IsFirstTypeFault, IsPresented};
 ghost use Rattle.lotos_base.specs.Name.{spelling};
 ghost use Rattle.lotos_base.specs.WrittenView.{placed_name_of, text_place_of};
-ghost use Rattle.type_unions.specs.PresentedView.{AreSoundTypes, presented_in};
+ghost use Rattle.type_presentations.specs.PresentedView.{AreSoundTypes, presented_in};
 ghost use Rattle.std.specs.Prelude.{◌≡◌, MatchResult};
 ghost use Rattle.syntax_trees.specs.TreeViews.{pairs_of, placed_names_of};
 ghost use Rattle.syntax_trees.specs.WrittenItem.{actualises, extends, renames};
-ghost use Rattle.type_declarations.specs.SectionView.{sections_of};
+ghost use Rattle.type_presentations.specs.SectionView.{sections_of};
 ghost use Rattle.type_definitions.specs.FaultView.{HoldsOfFault};
 ghost use Rattle.type_definitions.specs.TypeFault.{not_formal as nothing_formal};
 ghost use Rattle.type_definitions.specs.TypeView.{type_body_of};
@@ -16,10 +16,8 @@ use lotos_base::Name;
 use std::alloc::Global;
 use syntax_trees::{ItemBody, Named, PairText};
 use type_actualisation::{actualise, declare_equations, rename};
-use type_declarations::{SectionTexts, declare};
 use type_definitions::TypeFault;
-use type_presentations::Presentation;
-use type_unions::{PresentedTypes, union_of_mentions};
+use type_presentations::{Presentation, PresentedTypes, SectionTexts, declare, union_of_mentions};
 
 /// The presentation of the type of this name and body, after the types that it mentions, or its
 /// first fault.

@@ -20,7 +20,7 @@ ghost use Rattle.type_actualisation.specs.FormalTypesView.{
 };
 ghost use Rattle.type_flatten.specs.RequiredView.{AreRequired};
 ghost use Rattle.type_presentations.specs.PresentationView.{presentation_of};
-ghost use Rattle.type_unions.specs.PresentedView.{IsSoundPresentation};
+ghost use Rattle.type_presentations.specs.PresentedView.{IsSoundPresentation};
 
 use crate::flattening::{in_order, united};
 use crate::one_type::presentation_of_type;

@@ -13,3 +13,14 @@ pub mod GrowthLemmas
 pub mod EquationListLemmas
 pub mod NameLemmas
 pub mod EquationKeyLemmas
+pub mod PairLemmas
+pub mod ActualLemmas
+pub mod DeclareLemmas
+pub mod SectionLemmas
+pub mod UnionSignatures
+pub mod UnionData
+pub mod UnionLemmas
+pub mod JoinLemmas
+pub mod JoinSteps
+pub mod MentionLemmas
+pub mod PresentedLemmas

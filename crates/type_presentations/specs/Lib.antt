@@ -12,3 +12,15 @@ pub mod EquationKeys
 pub mod EquationListView
 pub mod PositionOfName
 pub mod NamesView
+pub mod PairNames
+pub mod PairIndexView
+pub mod FormalNames
+pub mod NewNamesView
+pub mod SectionView
+pub mod Making
+pub mod DeclaredOperation
+pub mod DeclarationMade
+pub mod MentionView
+pub mod UnionMade
+pub mod JoiningView
+pub mod PresentedView

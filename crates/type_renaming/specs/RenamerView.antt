@@ -2,7 +2,7 @@
 use Rattle.std.specs.Prelude.{ℕ, List, []}
 use Rattle.lotos_base.specs.Name.{spelling}
 use Rattle.syntax_trees.specs.WrittenItem.{WrittenPairs}
-use Rattle.type_pairs.specs.PairIndexView.{pairs_in}
+use Rattle.type_presentations.specs.PairIndexView.{pairs_in}
 use Rattle.type_renaming.specs.declared.renamer.Renamer.{Renamer}
 
 -- the name of the type

@@ -23,7 +23,7 @@ ghost use Rattle.std.specs.Prelude.{
   map,
 };
 ghost use Rattle.syntax_trees.specs.TreeViews.{pair_of};
-ghost use Rattle.type_declarations.specs.Making.{IsMade};
+ghost use Rattle.type_presentations.specs.Making.{IsMade};
 ghost use Rattle.type_definitions.specs.FaultView.{IsFaultFound};
 ghost use Rattle.type_definitions.specs.Presentation.{presentation_limit};
 ghost use Rattle.type_definitions.specs.Renaming.{
@@ -31,7 +31,7 @@ ghost use Rattle.type_definitions.specs.Renaming.{
   renamed_operation,
   renamed_operation_clash,
 };
-ghost use Rattle.type_pairs.specs.PairIndexView.{pairs_in};
+ghost use Rattle.type_presentations.specs.PairIndexView.{pairs_in};
 ghost use Rattle.type_presentations.specs.PresentationView.{
   IsSound,
   IsWithinLimits,

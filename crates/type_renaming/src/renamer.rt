@@ -6,14 +6,14 @@ ghost use Rattle.std.specs.Option.{option_map};
 ghost use Rattle.std.specs.Prelude.{◌≡◌, IfOk};
 ghost use Rattle.syntax_trees.specs.TreeViews.{pair_of};
 ghost use Rattle.type_definitions.specs.Renaming.{pair_for, renamed_operation, renamed_sort};
-ghost use Rattle.type_pairs.specs.PairIndexView.{pairs_in};
+ghost use Rattle.type_presentations.specs.PairIndexView.{pairs_in};
 ghost use Rattle.type_renaming.specs.Clashes.{giving};
 
 use lotos_base::{Name, NoMemory};
 use sort_terms::{Op, Sort};
 use std::alloc::Global;
 use syntax_trees::PairText;
-use type_pairs::PairIndex;
+use type_presentations::PairIndex;
 
 /// The name of a type that renames another one, and its pairs: those of sorts, or those of
 /// operations.

@@ -25,8 +25,7 @@ use lotos_base::Name;
 use std::alloc::Global;
 use syntax_trees::PairText;
 use type_definitions::TypeFault;
-use type_pairs::{look_at_op_pairs, look_at_sort_pairs};
-use type_presentations::{NamePositions, Presentation};
+use type_presentations::{NamePositions, Presentation, look_at_op_pairs, look_at_sort_pairs};
 
 /// The presentation of the type of this name that renames the base by these pairs: the image of
 /// the base, with its marks. What is renamed has the type as its origin; numbers stay.

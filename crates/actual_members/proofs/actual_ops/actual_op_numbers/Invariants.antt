@@ -4,7 +4,7 @@ use Rattle.type_presentations.specs.OperationListView.{operations_in}
 use Rattle.type_definitions.specs.Actualisation.{Actualising, actual_operation, actualised_sort}
 use Rattle.type_definitions.specs.ActualisationFaults.{formal_operation_fault}
 use Rattle.type_definitions.specs.ProfiledImage.{number_in}
-use Rattle.type_pairs.specs.PairIndexView.{pairs_in}
+use Rattle.type_presentations.specs.PairIndexView.{pairs_in}
 use Rattle.actual_members.specs.PartsView.{IsBaseOf}
 use Rattle.actual_members.proofs.ActualLemmas.{Looked}
 use Rattle.actual_members.proofs.actual_ops.actual_op_numbers.Given as goal

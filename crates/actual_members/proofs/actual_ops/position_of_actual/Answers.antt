@@ -2,7 +2,7 @@ use Rattle.std.proofs.Common.{◌<◌, arith}
 use Rattle.std.specs.Prelude.{◌^◌}
 use Rattle.sort_terms.specs.Operations.{operation_of}
 use Rattle.type_definitions.specs.ProfiledImage.{number_in}
-use Rattle.type_pairs.specs.PairIndexView.{pairs_in}
+use Rattle.type_presentations.specs.PairIndexView.{pairs_in}
 use Rattle.actual_members.proofs.SoughtLemmas.{sought_is_wanted, same_form, other_wanted, other_form_found, no_form_found, position_small}
 use Rattle.actual_members.proofs.actual_ops.position_of_actual.Goals as goal
 

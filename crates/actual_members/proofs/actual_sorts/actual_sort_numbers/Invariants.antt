@@ -3,7 +3,7 @@ use Rattle.sort_terms.specs.Operations.{sort_of}
 use Rattle.type_presentations.specs.SortListView.{sorts_in}
 use Rattle.type_definitions.specs.Actualisation.{Actualising, actual_sort}
 use Rattle.type_definitions.specs.ActualisationFaults.{formal_sort_fault}
-use Rattle.type_pairs.specs.PairIndexView.{pairs_in}
+use Rattle.type_presentations.specs.PairIndexView.{pairs_in}
 use Rattle.actual_members.specs.PartsView.{IsBaseOf}
 use Rattle.actual_members.proofs.ActualLemmas.{Looked}
 use Rattle.actual_members.proofs.actual_sorts.actual_sort_numbers.Given as goal

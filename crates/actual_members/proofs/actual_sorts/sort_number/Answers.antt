@@ -3,7 +3,7 @@ use Rattle.std.specs.Prelude.{◌^◌}
 use Rattle.lotos_base.specs.Name.{spelling}
 use Rattle.lotos_base.specs.Signature.{Sort}
 use Rattle.type_presentations.proofs.NameLemmas.{named_of}
-use Rattle.type_pairs.specs.PairNames.{names_of_sorts}
+use Rattle.type_presentations.specs.PairNames.{names_of_sorts}
 use Rattle.actual_members.proofs.SortActuals.{position_few}
 use Rattle.actual_members.proofs.actual_sorts.sort_number.Goals as goal
 

@@ -5,9 +5,9 @@ use Rattle.type_presentations.proofs.SizeLemmas.{within_limits}
 use Rattle.type_presentations.specs.OperationListView.{operations_in}
 use Rattle.type_presentations.specs.PresentationView.{presentation_of}
 use Rattle.type_presentations.specs.SortListView.{sorts_in}
-use Rattle.type_unions.proofs.JoinLemmas.{maps_of_union}
-use Rattle.type_unions.proofs.JoinSteps.{operations_came, sorts_came}
-use Rattle.type_unions.proofs.UnionLemmas.{few_together}
+use Rattle.type_presentations.proofs.JoinLemmas.{maps_of_union}
+use Rattle.type_presentations.proofs.JoinSteps.{operations_came, sorts_came}
+use Rattle.type_presentations.proofs.UnionLemmas.{few_together}
 use Rattle.type_actualisation.specs.FormalLists.{with_members}
 use Rattle.type_actualisation.proofs.formal_lists.join_signature.Goals as goal
 

@@ -3,10 +3,10 @@ use Rattle.std.proofs.lemmas.Result.{MatchResult-weaker}
 use Rattle.syntax_trees.specs.TreeViews.{placed_names_of}
 use Rattle.type_definitions.specs.Flattened.{mentions_with}
 use Rattle.type_definitions.specs.Union.{Mentioned}
-use Rattle.type_unions.specs.MentionView.{AreSoundMentions, mentions_of}
-use Rattle.type_unions.specs.PresentedView.{presented_in}
-use Rattle.type_unions.specs.UnionMade.{IsUnited}
-use Rattle.type_unions.specs.declared.mentions.Mention.{Mention}
+use Rattle.type_presentations.specs.MentionView.{AreSoundMentions, mentions_of}
+use Rattle.type_presentations.specs.PresentedView.{presented_in}
+use Rattle.type_presentations.specs.UnionMade.{IsUnited}
+use Rattle.type_presentations.specs.declared.mentions.Mention.{Mention}
 use Rattle.type_actualisation.proofs.type_formals.union_of_actuals.Goals as goal
 
 pub mentions-requires : goal.mentions-requires

@@ -1,6 +1,6 @@
 use Rattle.std.proofs.lemmas.Result.{MatchResult-weaker, err_from_is_err_and}
 use Rattle.type_definitions.specs.TypeView.{declared_types_of}
-use Rattle.type_unions.specs.PresentedView.{presented_in}
+use Rattle.type_presentations.specs.PresentedView.{presented_in}
 use Rattle.type_flatten.proofs.AllTypesLemmas.{type_refused, data_united, not_united}
 use Rattle.type_flatten.proofs.flattening.data_of_types.Goals as goal
 

@@ -5,7 +5,7 @@ use Rattle.type_definitions.specs.TypeView.{declared_type_of}
 use Rattle.type_definitions.specs.Union.{Mentioned}
 use Rattle.type_definitions.specs.declared.type_faults.TypeFault.TheVariants.{NoMemory}
 use Rattle.type_presentations.specs.PresentationView.{presentation_of}
-use Rattle.type_unions.specs.PresentedView.{presented_in}
+use Rattle.type_presentations.specs.PresentedView.{presented_in}
 use Rattle.type_flatten.specs.FlatView.{IsFirstTypeFault}
 use Rattle.type_flatten.proofs.flattening.present.Goals as goal
 

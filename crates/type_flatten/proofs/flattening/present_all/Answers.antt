@@ -4,7 +4,7 @@ use Rattle.std.proofs.lemmas.List.{drop_all}
 use Rattle.lotos_base.proofs.Pieces.{next_member}
 use Rattle.type_definitions.specs.TypeView.{declared_type_of, declared_types_of}
 use Rattle.type_definitions.specs.declared.type_texts.TypeText.{TypeText}
-use Rattle.type_unions.specs.PresentedView.{presented_in}
+use Rattle.type_presentations.specs.PresentedView.{presented_in}
 use Rattle.type_flatten.proofs.AllTypesLemmas.{at_the_start, presented_next, refused_next, all_there}
 use Rattle.type_flatten.proofs.flattening.present_all.Goals as goal
 

@@ -1,6 +1,6 @@
 use Rattle.std.proofs.Common.{drop}
 use Rattle.type_definitions.specs.TypeView.{declared_types_of}
-use Rattle.type_unions.specs.PresentedView.{AreSoundTypes, presented_in}
+use Rattle.type_presentations.specs.PresentedView.{AreSoundTypes, presented_in}
 use Rattle.type_flatten.proofs.AllTypesLemmas.{IsOnTheWay}
 use Rattle.type_flatten.proofs.flattening.present_all.Given as goal
 

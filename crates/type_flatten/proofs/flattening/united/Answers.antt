@@ -3,9 +3,9 @@ use Rattle.std.proofs.lemmas.Result.{err_from_is_err_and}
 use Rattle.type_definitions.specs.Flattened.{without_formals}
 use Rattle.type_definitions.specs.Union.{Mentioned}
 use Rattle.type_definitions.specs.declared.type_faults.TypeFault.TheVariants.{NoMemory}
-use Rattle.type_unions.specs.MentionView.{mentions_of, AreSoundMentions}
-use Rattle.type_unions.specs.declared.mentions.Mention.{Mention}
-use Rattle.type_unions.specs.PresentedView.{presented_in}
+use Rattle.type_presentations.specs.MentionView.{mentions_of, AreSoundMentions}
+use Rattle.type_presentations.specs.declared.mentions.Mention.{Mention}
+use Rattle.type_presentations.specs.PresentedView.{presented_in}
 use Rattle.type_flatten.specs.FlatView.{AreNotUnited}
 use Rattle.type_flatten.proofs.AllTypesLemmas.{union_is_united, union_fails}
 use Rattle.type_flatten.proofs.flattening.united.Goals as goal

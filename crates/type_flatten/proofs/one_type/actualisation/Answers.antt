@@ -5,9 +5,9 @@ use Rattle.lotos_base.specs.WrittenView.{placed_name_of}
 use Rattle.syntax_trees.specs.TreeViews.{placed_names_of, pairs_of}
 use Rattle.syntax_trees.specs.WrittenItem.{actualises}
 use Rattle.type_presentations.specs.PresentationView.{presentation_of}
-use Rattle.type_unions.specs.MentionView.{mentions_of, AreSoundMentions}
-use Rattle.type_unions.specs.declared.mentions.Mention.{Mention}
-use Rattle.type_unions.specs.PresentedView.{presented_in}
+use Rattle.type_presentations.specs.MentionView.{mentions_of, AreSoundMentions}
+use Rattle.type_presentations.specs.declared.mentions.Mention.{Mention}
+use Rattle.type_presentations.specs.PresentedView.{presented_in}
 use Rattle.type_flatten.proofs.OneTypeSteps.{wanting, nothing_to_actualise, no_actuals, actualised_by, not_actualised}
 use Rattle.type_flatten.proofs.one_type.actualisation.Goals as goal
 

@@ -3,10 +3,10 @@ use Rattle.std.proofs.lemmas.Result.{MatchResult-weaker, err_from_is_err_and}
 use Rattle.lotos_base.specs.Name.{spelling}
 use Rattle.syntax_trees.specs.TreeViews.{placed_names_of}
 use Rattle.syntax_trees.specs.WrittenItem.{extends}
-use Rattle.type_declarations.specs.SectionView.{sections_of}
-use Rattle.type_unions.specs.MentionView.{mentions_of, AreSoundMentions}
-use Rattle.type_unions.specs.declared.mentions.Mention.{Mention}
-use Rattle.type_unions.specs.PresentedView.{presented_in}
+use Rattle.type_presentations.specs.SectionView.{sections_of}
+use Rattle.type_presentations.specs.MentionView.{mentions_of, AreSoundMentions}
+use Rattle.type_presentations.specs.declared.mentions.Mention.{Mention}
+use Rattle.type_presentations.specs.PresentedView.{presented_in}
 use Rattle.type_flatten.proofs.OneTypeSteps.{wanting, nothing_mentioned, not_declared, no_equations, extended_by}
 use Rattle.type_flatten.proofs.one_type.extension.Goals as goal
 

@@ -1,7 +1,7 @@
 use Rattle.std.proofs.Common.{ap}
 use Rattle.lotos_base.specs.Name.{spelling}
 use Rattle.type_definitions.specs.TypeView.{type_body_of}
-use Rattle.type_unions.specs.PresentedView.{presented_in}
+use Rattle.type_presentations.specs.PresentedView.{presented_in}
 use Rattle.type_flatten.proofs.OneTypeSteps.{library_presented}
 use Rattle.type_flatten.proofs.one_type.presentation_of_type.Goals as goal
 

@@ -4,7 +4,7 @@ use Rattle.lotos_base.specs.WrittenView.{placed_name_of}
 use Rattle.syntax_trees.specs.TreeViews.{pairs_of}
 use Rattle.syntax_trees.specs.WrittenItem.{renames}
 use Rattle.type_presentations.specs.PresentationView.{presentation_of}
-use Rattle.type_unions.specs.PresentedView.{presented_in}
+use Rattle.type_presentations.specs.PresentedView.{presented_in}
 use Rattle.type_flatten.proofs.OneTypeSteps.{wanting, renamed_by, not_renamed}
 use Rattle.type_flatten.proofs.one_type.renaming.Goals as goal
 

@@ -1,7 +1,7 @@
 use Rattle.std.proofs.Common.{◌≡◌, ℕ, List, map, sym, ◌∙◌}
 use Rattle.std.specs.Prelude.{None}
 use Rattle.std.proofs.lemmas.Result.{err_from_is_err_and, MatchResult-weaker}
-use Rattle.type_declarations.proofs.DeclareLemmas.{later_fails}
+use Rattle.type_presentations.proofs.DeclareLemmas.{later_fails}
 use Rattle.lotos_base.specs.Name.{spelling}
 use Rattle.syntax_trees.specs.TreeViews.{pair_of, pairs_of}
 use Rattle.syntax_trees.specs.WrittenItem.{WrittenPairs}
@@ -16,7 +16,7 @@ use Rattle.type_presentations.specs.PresentationView.{IsSound, IsWithinLimits, p
 use Rattle.type_presentations.specs.declared.presentations.Presentation.{Presentation as CodePresentation}
 use Rattle.type_presentations.proofs.NameLemmas.{sorts_named, operations_named}
 use Rattle.type_renaming.specs.Renamed.{IsRenamed, IsRenamingFault}
-use Rattle.type_pairs.specs.PairIndexView.{pairs_in}
+use Rattle.type_presentations.specs.PairIndexView.{pairs_in}
 use Rattle.type_renaming.proofs.RenameLemmas.{clashes_are, images_are}
 use Rattle.type_renaming.proofs.renaming.rename.Goals as goal
 

@@ -7,7 +7,7 @@ use Rattle.sort_terms.specs.ReadingOutcome.{one_name}
 use Rattle.type_definitions.specs.Actualisation.{pair_unless}
 use Rattle.type_definitions.specs.Presentation.{first_position}
 use Rattle.type_definitions.specs.Renaming.{pair_for}
-use Rattle.type_pairs.specs.PairIndexView.{pairs_in}
+use Rattle.type_presentations.specs.PairIndexView.{pairs_in}
 use Rattle.actual_members.proofs.SettlingLemmas.{is_there, not_there}
 use Rattle.actual_members.proofs.source.Source.renamer.Goals as goal
 

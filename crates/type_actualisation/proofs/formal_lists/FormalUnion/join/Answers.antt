@@ -1,7 +1,7 @@
 use Rattle.type_definitions.specs.FormalEquations.{WithFormals}
 use Rattle.type_presentations.specs.PresentationView.{presentation_of}
 use Rattle.type_presentations.specs.OperationListView.{operations_in}
-use Rattle.type_unions.proofs.UnionData.{keep_by_lists}
+use Rattle.type_presentations.proofs.UnionData.{keep_by_lists}
 use Rattle.type_actualisation.proofs.FormalListLemmas.{joined_as, maps_by, union_joined}
 use Rattle.type_actualisation.proofs.formal_lists.FormalUnion.join.Goals as goal
 

@@ -1,7 +1,7 @@
 use Rattle.type_definitions.specs.FormalEquations.{FlattenedType, WithFormals}
 use Rattle.type_definitions.specs.Union.{joined_presentation}
 use Rattle.type_presentations.specs.PresentationView.{presentation_of}
-use Rattle.type_unions.proofs.UnionSignatures.{union_is_larger}
+use Rattle.type_presentations.proofs.UnionSignatures.{union_is_larger}
 use Rattle.type_actualisation.proofs.FormalListLemmas.{joined_as, larger_formals, maps_by, moved_into, union_required}
 use Rattle.type_actualisation.proofs.formal_lists.FormalUnion.require.Goals as goal
 

@@ -1,2 +1,0 @@
-pub mod DeclareLemmas
-pub mod SectionLemmas

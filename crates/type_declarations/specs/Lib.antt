@@ -1,4 +1,0 @@
-pub mod SectionView
-pub mod Making
-pub mod DeclaredOperation
-pub mod DeclarationMade

@@ -1,4 +1,0 @@
-pub mod PairNames
-pub mod PairIndexView
-pub mod FormalNames
-pub mod NewNamesView

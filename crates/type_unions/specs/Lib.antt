@@ -1,4 +1,0 @@
-pub mod MentionView
-pub mod UnionMade
-pub mod JoiningView
-pub mod PresentedView
