@@ -23,13 +23,13 @@ use Rattle.type_definitions.proofs.FaultLemmas.{not_past, none_first}
 use Rattle.type_presentations.specs.MarksView.{IsKnown, marks_in}
 use Rattle.type_presentations.specs.PresentationView.{IsSound, IsWithinLimits, presentation_of}
 use Rattle.type_presentations.specs.declared.presentations.Presentation.{Presentation}
-use Rattle.actual_members.specs.Actuals.{AreActualOperations, AreActualSorts, actuals_from}
+use Rattle.type_renaming.specs.Actuals.{AreActualOperations, AreActualSorts, actuals_from}
 use Rattle.type_actualisation.specs.Brought.{IsBrought}
-use Rattle.actual_members.specs.CameView.{place_kept}
-use Rattle.actual_members.specs.FaultPlaces.{fault_at}
-use Rattle.actual_members.specs.SourceView.{AreOperationsComing, AreSortsComing}
-use Rattle.actual_members.specs.declared.came.Came.{Came}
-use Rattle.actual_members.specs.declared.source.Source.{Source}
+use Rattle.type_renaming.specs.CameView.{place_kept}
+use Rattle.type_renaming.specs.FaultPlaces.{fault_at}
+use Rattle.type_renaming.specs.SourceView.{AreOperationsComing, AreSortsComing}
+use Rattle.type_renaming.specs.declared.came.Came.{Came}
+use Rattle.type_renaming.specs.declared.source.Source.{Source}
 use Rattle.type_actualisation.specs.Parts.{HasBroughtOperations, HasBroughtSorts, HasOperationParts, HasParts, HasSortParts, HaveCome, IsBroughtIn, IsComingFault, HasBroughtRest, IsFaultBehindPairs, IsFormalOperationFault, IsFormalSortFault, fault_behind_pairs, fault_kept}
 use Rattle.type_actualisation.proofs.FaultLemmas.{found_first, found_later, found_same, later_is, none_at, operation_twice, sort_twice, too_much}
 

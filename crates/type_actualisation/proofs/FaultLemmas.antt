@@ -8,9 +8,9 @@ use Rattle.type_definitions.specs.declared.type_faults.TypeFault.{TypeFault as C
 use Rattle.type_definitions.proofs.HoldsLemmas.{holds_weaker}
 use Rattle.type_definitions.specs.TypeFault.{TypeFault, double_operation, double_sort, first_fault, too_large}
 use Rattle.type_definitions.proofs.FaultLemmas.{first_fails}
-use Rattle.actual_members.specs.CameView.{place_kept}
-use Rattle.actual_members.specs.FaultPlaces.{fault_at}
-use Rattle.actual_members.specs.declared.came.Came.{Came}
+use Rattle.type_renaming.specs.CameView.{place_kept}
+use Rattle.type_renaming.specs.FaultPlaces.{fault_at}
+use Rattle.type_renaming.specs.declared.came.Came.{Came}
 use Rattle.type_actualisation.specs.Parts.{fault_kept}
 
 pub later_is : (a rest : Option TypeFault) → a ≡ None → first_fault a rest ≡ rest

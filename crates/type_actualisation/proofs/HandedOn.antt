@@ -1,6 +1,4 @@
 -- What crates above this one need of the crates below it.
-pub use Rattle.type_presentations.proofs.UnionData.{union_data}
-pub use Rattle.type_presentations.proofs.UnionSignatures.{image_in}
 pub use Rattle.type_equations.proofs.AskedLemmas.{sorts_there, give_both, give_append}
 pub use Rattle.type_equations.proofs.GivenLemmas.{gives_same, give_all_same}
 pub use Rattle.type_equations.proofs.OccurrenceLemmas.{numbers_have, stands_there, comes, in_scope, occurs_numbered, adds_nothing}

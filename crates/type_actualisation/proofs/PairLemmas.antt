@@ -15,10 +15,10 @@ use Rattle.type_definitions.specs.Presentation.{Presentation as PlainPresentatio
 use Rattle.type_definitions.specs.Renaming.{operation_pairs_fault}
 use Rattle.type_definitions.specs.Actualisation.{Actualising, formal_operations_of}
 use Rattle.type_definitions.specs.ActualisationFaults.{actual_pairs_fault, actualising_fault}
-use Rattle.actual_members.specs.HandedOn.{pairs_in}
+use Rattle.type_presentations.specs.PairIndexView.{pairs_in}
 use Rattle.type_presentations.specs.PresentationView.{presentation_of}
 use Rattle.type_presentations.specs.declared.presentations.Presentation.{Presentation}
-use Rattle.actual_members.specs.declared.source.Source.{Source}
+use Rattle.type_renaming.specs.declared.source.Source.{Source}
 use Rattle.type_actualisation.specs.Actualised.{IsActualised}
 use Rattle.type_actualisation.specs.Indexed.{HasSortSource, IsFaultBehindSortPairs, IsFaultOfOperationPairs, IsFaultOfSortPairs, IsActualisingFault, IsWithOperations, fault_behind_sort_pairs}
 use Rattle.type_actualisation.specs.Parts.{HasParts, IsBroughtIn, IsFaultBehindPairs, fault_behind_pairs}

@@ -9,12 +9,12 @@ use Rattle.type_definitions.specs.Presentation.{Presentation as PlainPresentatio
 use Rattle.type_definitions.specs.Renaming.{operation_pairs_fault}
 use Rattle.type_definitions.specs.Actualisation.{Actualising, actualisation}
 use Rattle.type_definitions.specs.ActualisationFaults.{actual_pairs_fault, actualising_fault}
-use Rattle.actual_members.specs.HandedOn.{pairs_in}
-use Rattle.actual_members.specs.HandedOn.{PairIndex}
+use Rattle.type_presentations.specs.PairIndexView.{pairs_in}
+use Rattle.type_presentations.specs.declared.pair_index.PairIndex.{PairIndex}
 use Rattle.type_presentations.specs.PresentationView.{IsSound, IsWithinLimits, presentation_of}
 use Rattle.type_presentations.specs.declared.presentations.Presentation.{Presentation}
-use Rattle.actual_members.specs.SourceView.{IsSourceOfSorts}
-use Rattle.actual_members.specs.declared.source.Source.{Source}
+use Rattle.type_renaming.specs.SourceView.{IsSourceOfSorts}
+use Rattle.type_renaming.specs.declared.source.Source.{Source}
 use Rattle.type_actualisation.specs.Parts.{fault_behind_pairs}
 
 -- ---- Pairs of sorts, then of operations.

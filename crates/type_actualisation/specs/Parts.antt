@@ -11,22 +11,22 @@ use Rattle.type_definitions.specs.Presentation.{is_too_large}
 use Rattle.type_definitions.specs.Flattened.{flattened_data_of}
 use Rattle.type_definitions.specs.Actualisation.{Actualising, actualisation, formal_operations_of, formal_sorts_of}
 use Rattle.type_definitions.specs.ActualisationFaults.{coming_fault, formal_operation_fault, formal_sort_fault}
-use Rattle.actual_members.specs.HandedOn.{pairs_in}
+use Rattle.type_presentations.specs.PairIndexView.{pairs_in}
 use Rattle.type_presentations.specs.SortListView.{SortList, sorts_in}
 use Rattle.type_presentations.specs.OperationListView.{OperationList, operations_in}
 use Rattle.type_presentations.specs.EquationListView.{HaveSidesOf, equations_in}
 use Rattle.type_presentations.specs.MarksView.{marks_in}
 use Rattle.type_presentations.specs.PresentationView.{IsSound, IsWithinLimits, presentation_of}
 use Rattle.type_presentations.specs.declared.presentations.Presentation.{Presentation}
-use Rattle.actual_members.specs.PartsView.{IsBaseOf}
+use Rattle.type_renaming.specs.PartsView.{IsBaseOf}
 use Rattle.type_actualisation.specs.ActualisationLaws.{HasActuals}
 use Rattle.type_actualisation.specs.Brought.{IsKeyed}
-use Rattle.actual_members.specs.Brought.{OperationsCame, SortsCame}
-use Rattle.actual_members.specs.CameView.{operations_with, place_kept, sorts_with}
-use Rattle.actual_members.specs.FaultPlaces.{fault_at}
-use Rattle.actual_members.specs.SourceView.{IsSourceOfOperations, IsSourceOfSorts}
-use Rattle.actual_members.specs.declared.came.Came.{Came}
-use Rattle.actual_members.specs.declared.source.Source.{Source}
+use Rattle.type_renaming.specs.Brought.{OperationsCame, SortsCame}
+use Rattle.type_renaming.specs.CameView.{operations_with, place_kept, sorts_with}
+use Rattle.type_renaming.specs.FaultPlaces.{fault_at}
+use Rattle.type_renaming.specs.SourceView.{IsSourceOfOperations, IsSourceOfSorts}
+use Rattle.type_renaming.specs.declared.came.Came.{Came}
+use Rattle.type_renaming.specs.declared.source.Source.{Source}
 
 -- ---- Sorts, then operations.
 

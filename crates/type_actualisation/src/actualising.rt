@@ -1,7 +1,7 @@
 //! Actualisations.
 
-ghost use Rattle.actual_members.specs.HandedOn.{names_of_formal_sorts};
-ghost use Rattle.actual_members.specs.Actuals.{actualising_with};
+ghost use Rattle.type_presentations.specs.FormalNames.{names_of_formal_sorts};
+ghost use Rattle.type_renaming.specs.Actuals.{actualising_with};
 ghost use Rattle.lotos_base.specs.Name.{spelling};
 ghost use Rattle.lotos_base.specs.WrittenView.{placed_name_of};
 ghost use Rattle.type_presentations.specs.NamesView.{HasNames};
@@ -29,15 +29,14 @@ ghost use Rattle.type_presentations.specs.PresentationView.{
 };
 
 use crate::bringing::{NewNumbers, bring};
-use actual_members::{
-    PairIndex, Source, formal_op_names, formal_sort_names, look_at_actual_sort_pairs,
-    look_at_op_pairs,
-};
 use lotos_base::Name;
 use std::alloc::Global;
 use syntax_trees::{Named, PairText};
 use type_definitions::TypeFault;
-use type_presentations::{NamePositions, Presentation};
+use type_presentations::{
+    NamePositions, PairIndex, Presentation, look_at_actual_sort_pairs, look_at_op_pairs,
+};
+use type_renaming::{Source, formal_op_names, formal_sort_names};
 
 /// The presentation of the type of this name that actualises the base by the actual types, whose
 /// union is given, and by these pairs: what is not formal in the base comes in behind the actual

@@ -26,13 +26,11 @@ ghost use Rattle.type_presentations.specs.PresentationView.{IsSound, IsWithinLim
 
 use crate::bring_equations;
 use crate::refusals::{refuse_kept, refuse_many_equations};
-use actual_members::{
-    Came, Source, actual_op_numbers, actual_sort_numbers, bring_ops, bring_sorts,
-};
 use std::alloc::Global;
 use syntax_trees::Named;
 use type_definitions::TypeFault;
 use type_presentations::{OperationList, Presentation, SortList};
+use type_renaming::{Came, Source, actual_op_numbers, actual_sort_numbers, bring_ops, bring_sorts};
 
 /// The new numbers of the sorts and operations of a base, by their old ones.
 #[derive(Drop)]

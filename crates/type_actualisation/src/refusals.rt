@@ -1,7 +1,7 @@
 //! Faults that were kept while sorts and operations came in.
 
-ghost use Rattle.actual_members.specs.CameView.{place_kept};
-ghost use Rattle.actual_members.specs.FaultPlaces.{fault_at};
+ghost use Rattle.type_renaming.specs.CameView.{place_kept};
+ghost use Rattle.type_renaming.specs.FaultPlaces.{fault_at};
 ghost use Rattle.type_presentations.specs.EquationListView.{equations_in};
 ghost use Rattle.lotos_base.specs.WrittenView.{placed_name_of};
 ghost use Rattle.std.specs.Prelude.{◌≡◌, false, length, MatchResult, nat_lt, None, true};
@@ -14,12 +14,12 @@ ghost use Rattle.type_definitions.specs.TypeFault.{
   too_large as too_much,
 };
 
-use actual_members::Came;
 use std::alloc::Global;
 use syntax_trees::Named;
 use type_definitions::TypeFault;
 use type_presentations::EquationList;
 use type_presentations::faults::{double_operation, double_sort, too_large};
+use type_renaming::Came;
 
 // How many equations a presentation has at most.
 const LIMIT: usize = 65_536;

@@ -1,7 +1,9 @@
 -- What crates above this one need of the crates below it.
 pub use Rattle.type_actualisation.proofs.DataLemmas.{actualised_data}
 pub use Rattle.type_actualisation.proofs.MapLemmas.{image_there}
-pub use Rattle.type_actualisation.proofs.HandedOn.{image_in, union_data, sorts_there, give_both, give_append, gives_same, give_all_same, numbers_have}
+pub use Rattle.type_actualisation.proofs.HandedOn.{sorts_there, give_both, give_append, gives_same, give_all_same, numbers_have}
+pub use Rattle.type_presentations.proofs.UnionSignatures.{image_in}
+pub use Rattle.type_presentations.proofs.UnionData.{union_data}
 pub use Rattle.type_actualisation.proofs.HandedOn.{stands_there, comes, in_scope, occurs_numbered, adds_nothing, sides_over, scopes_numbered, variables_over, side_reads}
 pub use Rattle.type_presentations.proofs.DeclareLemmas.{sorts_are_known, none_fails}
 pub use Rattle.type_presentations.proofs.AddedLemmas.{by_name, by_profile}

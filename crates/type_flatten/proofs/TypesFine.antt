@@ -19,7 +19,7 @@ use Rattle.type_definitions.specs.Flattened.{presentation_named, mention_of, men
 use Rattle.type_definitions.proofs.FaultLemmas.{none_first}
 use Rattle.type_presentations.proofs.GrowthLemmas.{front_or_last}
 use Rattle.type_presentations.proofs.SignatureLemmas.{nothing_well_formed}
-use Rattle.type_actualisation.proofs.HandedOn.{image_in}
+use Rattle.type_presentations.proofs.UnionSignatures.{image_in}
 use Rattle.type_flatten.proofs.RenamingLemmas.{renamings}
 use Rattle.type_flatten.proofs.ContributionLemmas.{contributions}
 use Rattle.type_flatten.specs.FlattenedData.{IsFine, AreFine, FlattenedDataAreWellFormed}

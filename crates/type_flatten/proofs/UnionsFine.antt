@@ -8,7 +8,7 @@ use Rattle.type_definitions.specs.Presentation.{Presentation, nothing, has_sort_
 use Rattle.type_definitions.specs.Union.{Mentioned, with_mentioned, mention_fault, union_of, union_fault, presentation_fault}
 use Rattle.type_definitions.proofs.FaultLemmas.{none_first, not_past}
 use Rattle.type_presentations.proofs.SignatureLemmas.{nothing_well_formed}
-use Rattle.type_actualisation.proofs.HandedOn.{union_data}
+use Rattle.type_presentations.proofs.UnionData.{union_data}
 use Rattle.type_flatten.specs.FlattenedData.{IsFine, AreFine}
 
 -- ---- No fault.

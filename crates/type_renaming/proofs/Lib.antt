@@ -3,3 +3,12 @@ pub mod PairLemmas
 pub mod PartLemmas
 pub mod KeptLemmas
 pub mod RenameLemmas
+pub mod SettlingLemmas
+pub mod ArrivingLemmas
+pub mod MemberLemmas
+pub mod ActualLemmas
+pub mod MarkedNames
+pub mod SortActuals
+pub mod SoughtLemmas
+pub mod CondensedLemmas
+pub mod NotingLemmas

@@ -4,3 +4,14 @@ pub mod Parts
 pub mod SameNumbers
 pub mod ImageOfBase
 pub mod Renamed
+pub mod FaultPlaces
+pub mod CameView
+pub mod SourceView
+pub mod Brought
+pub mod Actuals
+pub mod ProfilesView
+pub mod PartsView
+pub mod Condensed
+pub mod CondensedLaws
+pub mod Noting
+pub mod MakersView

@@ -5,7 +5,7 @@ use Rattle.lotos_base.specs.WrittenView.{placed_name_of}
 use Rattle.syntax_trees.specs.TreeViews.{pairs_of}
 use Rattle.type_definitions.specs.declared.type_faults.TypeFault.TheVariants.{NoMemory}
 use Rattle.type_presentations.specs.PresentationView.{presentation_of}
-use Rattle.actual_members.specs.Actuals.{actualising_with}
+use Rattle.type_renaming.specs.Actuals.{actualising_with}
 use Rattle.type_actualisation.proofs.PairLemmas.{actualised, first_refused, later_refused, refused}
 use Rattle.type_actualisation.proofs.actualising.actualise_into.Goals as goal
 

@@ -1,7 +1,7 @@
 use Rattle.std.proofs.Common.{ap}
 use Rattle.type_definitions.specs.TypeFault.{double_operation}
-use Rattle.actual_members.specs.CameView.{place_kept}
-use Rattle.actual_members.specs.FaultPlaces.{fault_at}
+use Rattle.type_renaming.specs.CameView.{place_kept}
+use Rattle.type_renaming.specs.FaultPlaces.{fault_at}
 use Rattle.type_actualisation.proofs.FaultLemmas.{found_exactly}
 use Rattle.type_actualisation.proofs.refusals.refuse_double_operation.Goals as goal
 

@@ -1,9 +1,0 @@
-pub mod SettlingLemmas
-pub mod ArrivingLemmas
-pub mod MemberLemmas
-pub mod ActualLemmas
-pub mod MarkedNames
-pub mod SortActuals
-pub mod SoughtLemmas
-pub mod CondensedLemmas
-pub mod NotingLemmas
