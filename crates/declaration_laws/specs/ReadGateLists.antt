@@ -3,7 +3,7 @@
 use Rattle.std.specs.Prelude.{ℕ, List}
 use Rattle.syntax_trees.specs.WrittenDefinition.{WrittenSpecification}
 use Rattle.syntax_trees.specs.TakenItems.{without_items}
-use Rattle.sentence_trees.specs.Reading.{IsSpecificationReading}
+use Rattle.tree_building.specs.Reading.{IsSpecificationReading}
 use Rattle.scope_parts.specs.GateLists.{TextHasGateLists}
 
 abbrev pub ReadTextsHaveGateLists : Type 0

@@ -18,10 +18,10 @@ use Rattle.tree_building.specs.declared.value.Value.{Value}
 use Rattle.tree_building.specs.MeaningView.{meaning}
 use Rattle.tree_building.specs.Meaning.{Meaning, a_specification, some_items, some_order_items, some_terms}
 use Rattle.tree_building.specs.RowMeaning.{numbered_row_means}
-use Rattle.sentence_trees.specs.Sentences.{kind_of, Derived}
-use Rattle.sentence_trees.proofs.AllGiven.{rows_have}
-use Rattle.sentence_trees.proofs.DefinitionsCases.{all_sentences_derived}
-use Rattle.sentence_trees.specs.LotosGrammar.{IsLotosGrammar}
+use Rattle.tree_building.specs.Sentences.{kind_of, Derived}
+use Rattle.tree_building.proofs.AllGiven.{rows_have}
+use Rattle.tree_building.proofs.DefinitionsCases.{all_sentences_derived}
+use Rattle.tree_building.specs.LotosGrammar.{IsLotosGrammar}
 
 -- the value of the tree of a derivation is the one meaning that its tokens have
 pub value_is : (text : List ℕ) (g : ContextFree) → IsLotosGrammar g → (tokens : List Token) (tree : Forest) →

@@ -7,11 +7,11 @@ ghost use Rattle.lotos_base.specs.WrittenView.{listed_operation_of, written_term
 ghost use Rattle.lotos_rows.specs.Rows.{grammar_from};
 ghost use Rattle.lotos_rows.specs.declared.starts.TheConstants as starts;
 ghost use Rattle.lotos_rows.specs.Starts.{AreItems, AreOptionalTerms, AreOrderItems, IsWrittenSpecification};
-ghost use Rattle.sentence_trees.specs.Sentences.{Derived, kind_of};
+ghost use Rattle.tree_building.specs.Sentences.{Derived, kind_of};
 ghost use Rattle.syntax_trees.specs.TreeViews.{item_of, written_specification_of};
 ghost use Rattle.tree_building.specs.Meaning.{Meaning};
 ghost use Rattle.tree_building.specs.MeaningView.{meaning};
-ghost use Rattle.sentence_trees.specs.LotosGrammar.{IsLotosGrammar};
+ghost use Rattle.tree_building.specs.LotosGrammar.{IsLotosGrammar};
 
 use crate::{Builder, built_items, built_order, built_specification, built_terms};
 use ll_engine::{Grammar, fold_derivation};

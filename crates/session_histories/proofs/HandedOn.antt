@@ -1,2 +1,2 @@
 -- What crates above this one need of the crates below it.
-pub use Rattle.sentence_trees.proofs.Outcomes.{all_have_one_outcome, same_tokens}
+pub use Rattle.tree_building.proofs.Outcomes.{all_have_one_outcome, same_tokens}

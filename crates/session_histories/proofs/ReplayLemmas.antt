@@ -4,10 +4,10 @@ use Rattle.lotos_base.proofs.Options.{none_and_some}
 use Rattle.lotos_base.specs.Signature.{Signature}
 use Rattle.lotos_base.specs.Term.{Term}
 use Rattle.lotos_base.specs.WrittenTerm.{WrittenTerm}
-use Rattle.sentence_trees.specs.Reading.{IsTermsReading, IsTermsFault}
-use Rattle.sentence_trees.specs.ReadingLaws.{TextsHaveOneOutcome}
-use Rattle.sentence_trees.specs.declared.fault.ReadFault.{ReadFault}
-use Rattle.sentence_trees.specs.declared.fault.ReadFault.TheVariants.{NoMemory}
+use Rattle.tree_building.specs.Reading.{IsTermsReading, IsTermsFault}
+use Rattle.tree_building.specs.ReadingLaws.{TextsHaveOneOutcome}
+use Rattle.tree_building.specs.declared.fault.ReadFault.{ReadFault}
+use Rattle.tree_building.specs.declared.fault.ReadFault.TheVariants.{NoMemory}
 use Rattle.sort_terms.specs.ReadingLaws.{ReadingComesToOneThing}
 use Rattle.sort_terms.specs.ReadingOutcome.{SortedTerm, one_name}
 use Rattle.sort_terms.proofs.OutcomeLemmas.{same_answer, not_answered_and_refused}

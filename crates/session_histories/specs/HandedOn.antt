@@ -7,5 +7,5 @@ pub use Rattle.printed_texts.specs.TermText.{Phrase, operand_text, phrase_text, 
 pub use Rattle.printed_texts.specs.TermText.{arguments_text, prefix_phrase, operator_text, between_text, infix_phrase, application_phrase}
 pub use Rattle.printed_texts.specs.TermText.{node_phrase}
 pub use Rattle.printed_texts.specs.TextView.{written_value}
-pub use Rattle.sentence_trees.specs.Laws.{TextsAreUnambiguous}
-pub use Rattle.sentence_trees.specs.Reading.{node_limit, IsTermsReading}
+pub use Rattle.tree_building.specs.Laws.{TextsAreUnambiguous}
+pub use Rattle.tree_building.specs.Reading.{node_limit, IsTermsReading}

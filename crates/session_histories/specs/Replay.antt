@@ -3,9 +3,9 @@ use Rattle.std.specs.Prelude.{◌≡◌, ◌≢◌, ◌⊎◌, ℕ, ◌+◌, Lis
 use Rattle.lotos_base.specs.Signature.{Signature}
 use Rattle.lotos_base.specs.Term.{Term}
 use Rattle.lotos_base.specs.WrittenTerm.{WrittenTerm}
-use Rattle.sentence_trees.specs.Reading.{IsTermsReading, IsTermsFault}
-use Rattle.sentence_trees.specs.declared.fault.ReadFault.{ReadFault}
-use Rattle.sentence_trees.specs.declared.fault.ReadFault.TheVariants.{NoMemory}
+use Rattle.tree_building.specs.Reading.{IsTermsReading, IsTermsFault}
+use Rattle.tree_building.specs.declared.fault.ReadFault.{ReadFault}
+use Rattle.tree_building.specs.declared.fault.ReadFault.TheVariants.{NoMemory}
 use Rattle.sort_terms.specs.ReadingOutcome as reading
 use Rattle.sort_terms.specs.ReadingOutcome.{ReadingIs, answered, one_name}
 use Rattle.behaviour_semantics.specs.Label.{Label}

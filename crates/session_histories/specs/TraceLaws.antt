@@ -3,7 +3,7 @@ use Rattle.std.specs.Prelude.{◌≡◌, ◌≢◌, ◌<◌, ℕ, List, [], fals
 use Rattle.std.specs.List.{list_any}
 use Rattle.lotos_base.specs.WrittenTerm.{WrittenTerm}
 use Rattle.lotos_lexer.specs.Bytes.{is_blank}
-use Rattle.sentence_trees.specs.Reading.{IsTermsReading}
+use Rattle.tree_building.specs.Reading.{IsTermsReading}
 use Rattle.lotos_base.specs.Signature.{Signature, Sort, Operation}
 use Rattle.lotos_base.specs.Term.{Term}
 use Rattle.behaviour_semantics.specs.Behaviour.{Behaviour}

@@ -13,8 +13,8 @@ use behaviour_semantics::instances::{equal_leaves_give_like_moves, runs_are_alik
 use behaviour_semantics::order::at_most_one_menu_is_exact;
 use behaviour_semantics::targets::targets_are_well_formed;
 use behaviour_semantics::transition::moves_are_determined;
-use sentence_trees::reading_laws::texts_have_one_outcome;
 use sort_terms::laws::reading_comes_to_one_thing;
+use tree_building::reading_laws::texts_have_one_outcome;
 
 /// A session goes where its derivations go, with canonical values and, up to alike states, by the
 /// rules of the standard.

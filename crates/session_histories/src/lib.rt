@@ -12,4 +12,4 @@ pub mod state_laws;
 pub use printed_texts::brackets::{push_number, push_text};
 pub use printed_texts::labels::{push_label, push_value};
 pub use printed_texts::values::push_given;
-pub use sentence_trees::laws::texts_are_unambiguous;
+pub use tree_building::laws::texts_are_unambiguous;

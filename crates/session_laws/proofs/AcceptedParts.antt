@@ -5,7 +5,7 @@ use Rattle.lotos_base.specs.Equation.{Data}
 use Rattle.syntax_trees.specs.WrittenDefinition.{WrittenSpecification}
 use Rattle.behaviour_semantics.specs.Behaviour.{Specification}
 use Rattle.type_definitions.specs.DeclaredTypes.{types_of}
-use Rattle.sentence_trees.specs.Reading.{IsSpecificationReading}
+use Rattle.tree_building.specs.Reading.{IsSpecificationReading}
 use Rattle.lotos_top.specs.HandedOn.{goes_on, Gathers, HaveData, StandsFor, Asked, Founded, FoundedBy, Acceptance, IsAccepted, GotFile}
 use Rattle.lotos_top.specs.HandedOn.{Gathered}
 

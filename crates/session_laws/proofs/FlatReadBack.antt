@@ -8,7 +8,7 @@ use Rattle.syntax_trees.specs.Depth.{nodes_of_item, nodes_of_specification}
 use Rattle.syntax_trees.specs.TakenItems.{items_of_inners, items_of_specification, without_items}
 use Rattle.syntax_trees.specs.WrittenItem.{WrittenItem, libraries, type_declared}
 use Rattle.syntax_trees.specs.WrittenDefinition.{WrittenInners, inner_item, process, no_inner, inner_then, inners_of, WrittenSpecification}
-use Rattle.sentence_trees.specs.Reading.{node_limit}
+use Rattle.tree_building.specs.Reading.{node_limit}
 use Rattle.behaviour_semantics.specs.Behaviour.{Process, Specification}
 use Rattle.type_definitions.specs.DeclaredTypes.{types_of}
 use Rattle.scope_parts.specs.Resolution.{resolved}

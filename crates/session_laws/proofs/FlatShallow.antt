@@ -10,7 +10,7 @@ use Rattle.syntax_trees.proofs.TakingItems.{listed-again}
 use Rattle.syntax_trees.specs.WrittenEquation.{WrittenPremiss, WrittenEquation, WrittenGroup}
 use Rattle.syntax_trees.specs.WrittenItem.{WrittenTypeBody, extends, renames, actualises, WrittenItem, libraries, type_declared}
 use Rattle.syntax_trees.specs.WrittenDefinition.{WrittenInner, WrittenInners, inner_item, process, no_inner, inner_then, inners_of, WrittenSpecification}
-use Rattle.sentence_trees.specs.Reading.{node_limit, IsTypesReading}
+use Rattle.tree_building.specs.Reading.{node_limit, IsTypesReading}
 use Rattle.behaviour_semantics.specs.Behaviour.{Specification}
 use Rattle.behaviour_semantics.specs.WellFormed.{Every}
 use Rattle.behaviour_semantics.proofs.ListLemmas.{Every-append}

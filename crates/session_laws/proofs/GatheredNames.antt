@@ -4,7 +4,7 @@ use Rattle.syntax_trees.specs.WrittenItem.{WrittenItem, libraries, type_declared
 use Rattle.syntax_trees.specs.WrittenDefinition.{WrittenSpecification, WrittenInner, WrittenInners, inner_item, process, no_inner, inner_then, inners_of}
 use Rattle.syntax_trees.specs.TakenItems.{items_of_specification, without_items, process_then, processes_of}
 use Rattle.syntax_trees.proofs.TakingItems.{listed-again}
-use Rattle.sentence_trees.specs.Reading.{IsTypesReading, IsSpecificationReading}
+use Rattle.tree_building.specs.Reading.{IsTypesReading, IsSpecificationReading}
 use Rattle.type_definitions.specs.DeclaredTypes.{DeclaredType, types_of}
 use Rattle.lotos_top.specs.HandedOn.{GotFile, Gathered, nothing_yet, item, all_gathered, Becomes}
 use Rattle.scope_parts.specs.Numbering.{own_gates, inner_gates, inners_gates}

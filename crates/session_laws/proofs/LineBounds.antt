@@ -3,7 +3,7 @@ use Rattle.std.proofs.Common.{◌≡◌, ℕ, ◌+◌, ◌<◌, ◌≤◌, Bool,
 use Rattle.lotos_base.specs.Term.{Term}
 use Rattle.behaviour_semantics.specs.WellFormed.{Every}
 use Rattle.behaviour_semantics.specs.Label.{Label}
-use Rattle.sentence_trees.specs.Reading.{node_limit}
+use Rattle.tree_building.specs.Reading.{node_limit}
 use Rattle.flat_sentences.specs.HandedOn.{term_depth, IsWithinLine, SessionBasis, Situation, PastStep, Progress, items_of, stepped, opened_progress}
 use Rattle.flat_sentences.specs.HandedOn.{HasStepped, lines_of, TraceHeading, no_heading, of_steps, of_states, goes_on, is_miscounted}
 use Rattle.flat_sentences.specs.HandedOn.{is_misread, is_unmet, is_replayed, LinesComeTo, all_done, one_goes_on, StatedLinesComeTo}

@@ -18,11 +18,11 @@ use Rattle.lotos_lexer.specs.declared.tokens.Token.{Token}
 use Rattle.lotos_rows.specs.Kept.{is_kept_kind}
 use Rattle.lotos_rows.specs.Rows.{grammar_from}
 use Rattle.tree_building.specs.Meaning.{Meaning}
-use Rattle.sentence_trees.specs.Sentences.{kind_of, Derived}
+use Rattle.tree_building.specs.Sentences.{kind_of, Derived}
 use Rattle.text_depth.specs.DepthPart.{DepthPart, depth_of}
 use Rattle.text_depth.specs.RowDepth.{closed_part, numbered_row_depth}
 use Rattle.text_depth.proofs.FoldedDepths.{depths_hold}
-use Rattle.sentence_trees.specs.LotosGrammar.{IsLotosGrammar}
+use Rattle.tree_building.specs.LotosGrammar.{IsLotosGrammar}
 
 pub value_is : (limit : ℕ) (text : List ℕ) (g : ContextFree) → IsLotosGrammar g → (tokens : List Token) (tree : Forest) →
     DerivesSymbols g.rows tree (Part g.start ∷ []) → leaves tree ≡ map kind_of tokens → (found : Meaning)

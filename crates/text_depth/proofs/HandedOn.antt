@@ -1,4 +1,4 @@
 -- What crates above this one need of the crates below it.
 pub use Rattle.lotos_rows.proofs.ReadableTexts.{specification_readable, items_readable}
-pub use Rattle.sentence_trees.proofs.AllGiven.{rows_have}
-pub use Rattle.sentence_trees.proofs.Outcomes.{all_have_one_outcome}
+pub use Rattle.tree_building.proofs.AllGiven.{rows_have}
+pub use Rattle.tree_building.proofs.Outcomes.{all_have_one_outcome}

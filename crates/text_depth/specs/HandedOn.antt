@@ -7,12 +7,12 @@ unfoldable pub use Rattle.lotos_rows.specs.Rows.{grammar_from}
 pub use Rattle.lotos_rows.specs.Starts.{IsWrittenSpecification, AreOptionalTerms, AreItems}
 pub use Rattle.lotos_rows.specs.Words.{left_out}
 pub use Rattle.lotos_rows.specs.declared.starts.TheConstants as starts
-pub use Rattle.sentence_trees.specs.Reading.{IsTypesReading, IsTypesFault, node_limit, IsRead, IsFault, IsFaultWithin, nodes_of_items}
-pub use Rattle.sentence_trees.specs.Reading.{IsOrderReadFault, IsOrderReading, IsSpecificationFault, IsSpecificationReading, IsTermsFault}
-pub use Rattle.sentence_trees.specs.Reading.{IsTermsReading}
-pub use Rattle.sentence_trees.specs.ReadingLaws.{HasOneOutcome, TextsHaveOneOutcome}
-pub use Rattle.sentence_trees.specs.Sentences.{kind_of}
-pub use Rattle.sentence_trees.specs.declared.fault.ReadFault.{ReadFault}
-pub use Rattle.sentence_trees.specs.declared.fault.ReadFault as read_fault
-pub use Rattle.sentence_trees.specs.declared.fault.ReadFault.TheVariants as read_faults
-pub use Rattle.sentence_trees.specs.declared.fault.ReadFault.TheVariants.{TooLong, BadByte, OpenComment, Syntax, TooDeep, NoMemory}
+pub use Rattle.tree_building.specs.Reading.{IsTypesReading, IsTypesFault, node_limit, IsRead, IsFault, IsFaultWithin, nodes_of_items}
+pub use Rattle.tree_building.specs.Reading.{IsOrderReadFault, IsOrderReading, IsSpecificationFault, IsSpecificationReading, IsTermsFault}
+pub use Rattle.tree_building.specs.Reading.{IsTermsReading}
+pub use Rattle.tree_building.specs.ReadingLaws.{HasOneOutcome, TextsHaveOneOutcome}
+pub use Rattle.tree_building.specs.Sentences.{kind_of}
+pub use Rattle.tree_building.specs.declared.fault.ReadFault.{ReadFault}
+pub use Rattle.tree_building.specs.declared.fault.ReadFault as read_fault
+pub use Rattle.tree_building.specs.declared.fault.ReadFault.TheVariants as read_faults
+pub use Rattle.tree_building.specs.declared.fault.ReadFault.TheVariants.{TooLong, BadByte, OpenComment, Syntax, TooDeep, NoMemory}

@@ -10,5 +10,5 @@ pub mod part;
 mod rows;
 
 pub use depth::{items_depth, specification_depth, terms_depth};
-pub use sentence_trees::reading_laws::texts_have_one_outcome;
-pub use sentence_trees::{Derived, ReadFault, TextKind, derive};
+pub use tree_building::reading_laws::texts_have_one_outcome;
+pub use tree_building::{Derived, ReadFault, TextKind, derive};

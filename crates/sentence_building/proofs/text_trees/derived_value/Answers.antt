@@ -1,6 +1,6 @@
 use Rattle.std.proofs.Common.{◌∙◌}
 use Rattle.std.proofs.lemmas.Result.{IfOk-weaker}
-use Rattle.sentence_trees.proofs.Grammars.{kept_in_rows}
+use Rattle.tree_building.proofs.Grammars.{kept_in_rows}
 use Rattle.sentence_building.proofs.Meanings.{value_is}
 use Rattle.sentence_building.proofs.text_trees.derived_value.Goals as goal
 

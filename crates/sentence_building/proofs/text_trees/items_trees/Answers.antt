@@ -5,8 +5,8 @@ use Rattle.lotos_rows.specs.Starts.{AreItems}
 use Rattle.syntax_trees.specs.TreeViews.{item_of}
 use Rattle.tree_building.specs.MeaningView.{meaning}
 use Rattle.tree_building.specs.Parts.{meant_items}
-use Rattle.sentence_trees.specs.LotosGrammar.{IsLotosGrammar}
-use Rattle.sentence_trees.proofs.Grammars.{of_types}
+use Rattle.tree_building.specs.LotosGrammar.{IsLotosGrammar}
+use Rattle.tree_building.proofs.Grammars.{of_types}
 use Rattle.sentence_building.proofs.Meanings.{items_given}
 use Rattle.sentence_building.proofs.text_trees.items_trees.Goals as goal
 

@@ -5,8 +5,8 @@ use Rattle.lotos_rows.specs.Starts.{AreOrderItems}
 use Rattle.lotos_base.specs.WrittenView.{listed_operation_of}
 use Rattle.tree_building.specs.MeaningView.{meaning}
 use Rattle.tree_building.specs.Parts.{meant_order_items}
-use Rattle.sentence_trees.specs.LotosGrammar.{IsLotosGrammar}
-use Rattle.sentence_trees.proofs.Grammars.{of_order_files}
+use Rattle.tree_building.specs.LotosGrammar.{IsLotosGrammar}
+use Rattle.tree_building.proofs.Grammars.{of_order_files}
 use Rattle.sentence_building.proofs.Meanings.{order_given}
 use Rattle.sentence_building.proofs.text_trees.order_items.Goals as goal
 

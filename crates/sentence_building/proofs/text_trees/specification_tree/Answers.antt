@@ -5,8 +5,8 @@ use Rattle.lotos_rows.specs.Starts.{IsWrittenSpecification}
 use Rattle.syntax_trees.specs.TreeViews.{written_specification_of}
 use Rattle.tree_building.specs.MeaningView.{meaning}
 use Rattle.tree_building.specs.Parts.{meant_specification}
-use Rattle.sentence_trees.specs.LotosGrammar.{IsLotosGrammar}
-use Rattle.sentence_trees.proofs.Grammars.{of_specifications}
+use Rattle.tree_building.specs.LotosGrammar.{IsLotosGrammar}
+use Rattle.tree_building.proofs.Grammars.{of_specifications}
 use Rattle.sentence_building.proofs.Meanings.{specification_given}
 use Rattle.sentence_building.proofs.text_trees.specification_tree.Goals as goal
 

@@ -5,8 +5,8 @@ use Rattle.lotos_rows.specs.Starts.{AreOptionalTerms}
 use Rattle.lotos_base.specs.WrittenView.{written_term_of}
 use Rattle.tree_building.specs.MeaningView.{meaning}
 use Rattle.tree_building.specs.Parts.{meant_terms}
-use Rattle.sentence_trees.specs.LotosGrammar.{IsLotosGrammar}
-use Rattle.sentence_trees.proofs.Grammars.{of_terms}
+use Rattle.tree_building.specs.LotosGrammar.{IsLotosGrammar}
+use Rattle.tree_building.proofs.Grammars.{of_terms}
 use Rattle.sentence_building.proofs.Meanings.{terms_given}
 use Rattle.sentence_building.proofs.text_trees.terms_trees.Goals as goal
 

@@ -1,11 +1,11 @@
 use Rattle.std.proofs.Common.{◌≡◌, ◌∙◌, Some, None, ap, sym}
 use Rattle.std.specs.Prelude.{option_map}
 use Rattle.std.proofs.lemmas.Result.{IfOk-weaker}
-use Rattle.sentence_trees.specs.Reading.{node_limit}
+use Rattle.tree_building.specs.Reading.{node_limit}
 use Rattle.text_depth.specs.DepthPart.{depth_of}
 use Rattle.text_depth.specs.RowDepth.{closed_part}
 use Rattle.text_depth.specs.PartView.{kept_of}
-use Rattle.sentence_trees.proofs.Grammars.{kept_in_rows}
+use Rattle.tree_building.proofs.Grammars.{kept_in_rows}
 use Rattle.text_depth.proofs.Depths.{kept_is, value_is}
 use Rattle.text_depth.proofs.depth.depth.Goals as goal
 

@@ -2,12 +2,12 @@ use Rattle.std.proofs.Common.{map, refl, subst, sym}
 use Rattle.std.proofs.lemmas.Result.{IfOk-weaker}
 use Rattle.ll_engine.specs.Language.{IsLeftmostDerivation}
 use Rattle.lotos_rows.specs.declared.starts.TheConstants as starts
-use Rattle.sentence_trees.specs.Sentences.{kind_of}
-use Rattle.sentence_trees.proofs.DefinitionsCases.{all_sentences_derived}
+use Rattle.tree_building.specs.Sentences.{kind_of}
+use Rattle.tree_building.proofs.DefinitionsCases.{all_sentences_derived}
 use Rattle.tree_building.specs.Meaning.{some_items}
-use Rattle.sentence_trees.specs.Reading.{node_limit}
-use Rattle.sentence_trees.specs.LotosGrammar.{IsLotosGrammar}
-use Rattle.sentence_trees.proofs.Grammars.{of_types}
+use Rattle.tree_building.specs.Reading.{node_limit}
+use Rattle.tree_building.specs.LotosGrammar.{IsLotosGrammar}
+use Rattle.tree_building.proofs.Grammars.{of_types}
 use Rattle.text_depth.proofs.Depths.{deep_is, derived_at}
 use Rattle.text_depth.proofs.depth.items_depth.Goals as goal
 

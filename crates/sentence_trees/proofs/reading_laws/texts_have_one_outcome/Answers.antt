@@ -1,5 +1,0 @@
-use Rattle.sentence_trees.proofs.Outcomes.{all_have_one_outcome}
-use Rattle.sentence_trees.proofs.reading_laws.texts_have_one_outcome.Goals as goal
-
-pub returns : goal.returns
-returns c = all_have_one_outcome
