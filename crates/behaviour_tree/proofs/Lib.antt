@@ -3,3 +3,10 @@ pub mod EnvironmentLemmas
 pub mod FreeLemmas
 pub mod StartLemmas
 pub mod StandingLemmas
+pub mod TermDigestLemmas
+pub mod ListLemmas
+pub mod TermLists
+pub mod BinderLemmas
+pub mod NodeLemmas
+pub mod ActionLemmas
+pub mod ClosedValues

@@ -7,3 +7,8 @@ pub mod StateView
 pub mod NodeContent
 pub mod Closed
 pub mod Over
+pub mod Placings
+pub mod Placed
+pub mod Mixing
+pub mod TermDigests
+pub mod Digests

@@ -10,8 +10,8 @@ use Rattle.behaviour_semantics.specs.Behaviour.{Behaviour}
 use Rattle.behaviour_tree.specs.StateView.{stands_for, state_of}
 use Rattle.behaviour_tree.specs.declared.states.Node.{Node}
 use Rattle.behaviour_tree.specs.declared.states.State.{State}
-use Rattle.same_behaviours.specs.Digests.{digest}
-use Rattle.same_behaviours.specs.Mixing.{mixed}
+use Rattle.behaviour_tree.specs.Digests.{digest}
+use Rattle.behaviour_tree.specs.Mixing.{mixed}
 use Rattle.certificate_theory.specs.Certificate.{ListedPair, AreListed}
 use Rattle.path_order.specs.HeadIndexView.{numbers_at}
 use Rattle.path_order.specs.declared.head_index.HeadIndex.{HeadIndex}

@@ -1,7 +1,7 @@
 -- Pairs by buckets: pairs of the same states are in one bucket.
 use Rattle.std.specs.Prelude.{◌≡◌, ℕ, ◌%◌, List, [], ◌∷◌, ◌++◌, Some, slice_get, if◌then◌else◌, nat_eq}
-use Rattle.same_behaviours.specs.Digests.{digest}
-use Rattle.same_behaviours.specs.Mixing.{mixed}
+use Rattle.behaviour_tree.specs.Digests.{digest}
+use Rattle.behaviour_tree.specs.Mixing.{mixed}
 use Rattle.behaviour_semantics.specs.Behaviour.{Behaviour}
 use Rattle.certificate_theory.specs.Certificate.{ListedPair}
 use Rattle.path_order.specs.HeadIndexView.{numbers_at}

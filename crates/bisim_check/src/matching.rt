@@ -21,7 +21,6 @@ use crate::readings::{Listed, Reading};
 use crate::surveys::Surveyed;
 use behaviour_tree::{Label, Spec, State};
 use path_order::head_index::HeadIndex;
-use same_behaviours::same_nodes;
 use sort_terms::Sorted;
 
 /// Answers nothing where each event has an answer, or else the first one that has none. Targets
@@ -217,7 +216,7 @@ fn is_state(states: &Vec<Surveyed>, number: u32, state: &State) -> bool
     requires { number < length states.now.items }
     ensures { IsTrue result ↔ (behaviour_at states.now.items number ≡ state_of state.now) }
 {
-    same_nodes(state_at(states, number).state.node(), state.node())
+    state_at(states, number).state.node().same(state.node())
 }
 
 /// The state with this number.

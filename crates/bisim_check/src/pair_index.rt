@@ -7,11 +7,10 @@ ghost use Rattle.std.specs.Prelude.{◌≡◌, ℕ, IfOk, OnOk, length};
 
 use crate::matching::state_at;
 use crate::readings::{Listed, Reading};
-use behaviour_tree::State;
+use behaviour_tree::mixing::mix;
+use behaviour_tree::{State, node_digest};
 use lotos_base::NoMemory;
 use path_order::head_index::HeadIndex;
-use same_behaviours::mixing::mix;
-use same_behaviours::node_digest;
 use std::alloc::Global;
 
 /// The numbers of the pairs, each in the bucket of its states.

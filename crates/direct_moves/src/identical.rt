@@ -8,7 +8,6 @@
 
 use behaviour_tree::{Beh, Meet, Node, Offer};
 use lotos_base::{Form, Name, NoMemory, Place};
-use same_behaviours::same_nodes;
 use sort_terms::examples::constant;
 use sort_terms::{Op, Sorted, Term, Variable};
 use std::alloc::Global;
@@ -267,7 +266,7 @@ fn node(alloc: Global, text: &str) -> Result<Rc<Node>, NoMemory> {
 // Whether it is told, from both sides, if the node of the words is the same as this one.
 fn is_told(alloc: Global, one: &Rc<Node>, words: &str, same: bool) -> Result<bool, NoMemory> {
     let other = node(alloc, words)?;
-    Ok(same_nodes(one, &other) == same && same_nodes(&other, one) == same)
+    Ok(one.same(&other) == same && other.same(one) == same)
 }
 
 // Whether the case of the line holds.

@@ -8,7 +8,6 @@ ghost use Rattle.std.specs.Prelude.{◌≡◌, ◌↔◌, IfSome, IsTrue, map};
 ghost use Rattle.step_taker.specs.Taken.{Ground};
 
 use behaviour_tree::Node;
-use same_behaviours::same_nodes;
 use shared_entries::MenuPart;
 use shared_entries::items::Item;
 use std::rc::Rc;
@@ -69,7 +68,7 @@ impl Kept {
         ensures { IsTrue result
             ↔ (stands_for (listed_for self.now).node.value ≡ stands_for node.now) }
     {
-        same_nodes(&self.listed().node, node)
+        self.listed().node.same(node)
     }
 
     /// The entries of the menu of the node itself.

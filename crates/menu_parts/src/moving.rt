@@ -3,7 +3,6 @@
 
 use crate::kept::Kept;
 use behaviour_tree::Node;
-use same_behaviours::same_nodes;
 use std::rc::Rc;
 
 /// Whether the one part of the node has moved: it has, where all else is the same.
@@ -36,13 +35,13 @@ pub fn sides_moved(node: &Rc<Node>, kept: Option<&Rc<Kept>>) -> (bool, bool) {
 // The same of both sides and what was kept for them.
 fn moved_of(sides: (&Node, &Node), others: (&Node, &Node)) -> (bool, bool) {
     if stands_alone(sides.0) {
-        if same_nodes(sides.0, others.0) {
+        if sides.0.same(others.0) {
             return (false, true);
         }
         return (true, seen_moved(sides.1, others.1));
     }
     if stands_alone(sides.1) {
-        if same_nodes(sides.1, others.1) {
+        if sides.1.same(others.1) {
             return (true, false);
         }
         return (seen_moved(sides.0, others.0), true);
@@ -55,9 +54,9 @@ fn seen_moved(node: &Node, other: &Node) -> bool {
     match (sides_of(inside(node)), sides_of(inside(other))) {
         (Some(sides), Some(others)) => {
             if stands_alone(sides.0) {
-                return !same_nodes(sides.0, others.0);
+                return !sides.0.same(others.0);
             }
-            stands_alone(sides.1) && !same_nodes(sides.1, others.1)
+            stands_alone(sides.1) && !sides.1.same(others.1)
         }
         _ => false,
     }

@@ -13,6 +13,6 @@ returns c =
     at_state states c.args.number found c.state_at.ensures in
     let one : stands_for c.node.result.now ≡ behaviour_in found = ap stands_for c.node.ensures in
     let other : stands_for c.node-2.result.now ≡ state_of c.args.state.now = ap stands_for c.node-2.ensures in (
-      (λ h. here ∙ (sym one ∙ (c.same_nodes.ensures.0 h ∙ other))),
-      (λ e. c.same_nodes.ensures.1 (one ∙ (sym here ∙ (e ∙ sym other)))),
+      (λ h. here ∙ (sym one ∙ (c.same.ensures.0 h ∙ other))),
+      (λ e. c.same.ensures.1 (one ∙ (sym here ∙ (e ∙ sym other)))),
     )

@@ -1,4 +1,4 @@
-use Rattle.same_behaviours.proofs.ListLemmas.{tells_pairs}
+use Rattle.behaviour_tree.proofs.ListLemmas.{tells_pairs}
 use Rattle.menu_parts.proofs.spreads.same_pairs.Goals as goal
 
 pub returns : goal.returns

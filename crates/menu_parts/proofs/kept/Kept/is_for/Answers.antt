@@ -7,5 +7,5 @@ use Rattle.menu_parts.proofs.kept.Kept.is_for.Goals as goal
 
 pub returns : goal.returns
 returns c =
-    subst (λ (b : Behaviour). IsTrue c.same_nodes.result ↔ (b ≡ stands_for c.args.node.now))
-    (ap stands_for (c.deref.ensures ∙ ap (λ (l : Listed). l.node.value) c.listed.ensures.same)) c.same_nodes.ensures
+    subst (λ (b : Behaviour). IsTrue c.same.result ↔ (b ≡ stands_for c.args.node.now))
+    (ap stands_for (c.deref.ensures ∙ ap (λ (l : Listed). l.node.value) c.listed.ensures.same)) c.same.ensures

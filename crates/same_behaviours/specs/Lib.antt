@@ -1,5 +1,0 @@
-pub mod Placings
-pub mod Placed
-pub mod Mixing
-pub mod TermDigests
-pub mod Digests
