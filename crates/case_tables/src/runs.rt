@@ -4,7 +4,7 @@ use crate::cases::{Case, File, Left, Outcome, text_named};
 use crate::faults::Fault;
 use crate::outside::{CutSource, SlowSink};
 use lotos_base::{GetFault, MemShelf, MemSink, MemSource, Shelf};
-use lotos_top::run;
+use lotos_top::{Ended, run};
 use std::alloc::Global;
 use std::mem;
 
@@ -25,9 +25,17 @@ pub fn run_case(alloc: Global, case: &mut Case, shared: &[File]) -> Result<Outco
     let printed = Vec::from_slice(alloc, output.written())?;
     Ok(Outcome {
         prints: Some(printed),
-        status: Some(u64::from(ended.status())),
+        status: status_of(ended, &input, &output),
         leaves: left_on(alloc, &mut shelf, case)?,
     })
+}
+
+/// The status of the run, and none where it called an input or an output behind its end.
+fn status_of(ended: Ended, input: &CutSource, output: &SlowSink) -> Option<u64> {
+    if input.is_read_on() || output.is_written_on() {
+        return None;
+    }
+    Some(u64::from(ended.status()))
 }
 
 /// The shelf of the case.

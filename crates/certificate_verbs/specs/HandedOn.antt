@@ -7,7 +7,7 @@ pub use Rattle.certificate_theory.specs.SameData.{AreSameData}
 pub use Rattle.command_words.specs.HandedOn.{book_canon, book_chooses, book_is_canon, Book, rules_in, precedence_in, rules_of, Chooses, Did}
 pub use Rattle.command_words.specs.HandedOn.{Acceptance, HoldsAccepted, Accepted, ShelfState, GotFile, Gives, Comes, goes_on, unread, stops}
 pub use Rattle.command_words.specs.HandedOn.{wants_memory, Refused, Asked, Founded, IsAccepted, IsFounded, Part, Then, Has, Telling, Lacks}
-pub use Rattle.command_words.specs.HandedOn.{AreGotFrom, got_from, ComesOfPart, FoundsWith, WithBook, ComesOver, shelf_state, IsFileOf}
+pub use Rattle.command_words.specs.HandedOn.{AreGotFrom, got_from, ComesOfPart, FoundsWith, WithBook, ComesOver, IsFileOf}
 pub use Rattle.command_words.specs.HandedOn.{refused_of, AcceptsText, Failed, NotAccepted, File, Spec, NoMemory, asked_acceptance, words_of, Opens}
 pub use Rattle.command_words.specs.HandedOn.{FoundedBy, start_of, Founds, StartsWithValues, accepted_with, founded_with, DataAreWellFormed}
 pub use Rattle.command_words.specs.HandedOn.{OpensBook, ComesToAgreement, FunctionalitiesAgree, Guarded, IsGuardedIn, KeepsSpecification}

@@ -26,7 +26,6 @@ ghost use Rattle.command_words.specs.HandedOn.{
   BeginsOver,
   HoldsWithText,
   ShelfState,
-  shelf_state,
 };
 ghost use Rattle.command_words.specs.Words.{compared_files as names_compared};
 ghost use Rattle.sort_terms.specs.EquationView.{data_of};
@@ -63,11 +62,9 @@ pub fn bisim<F: Shelf>(
 ) -> Result<Alone, NoMemory>
     ensures { MatchResult result
         (IsPrinted (ChecksCertificate (names_compared spec.now other.now pairs.now))
-        (shelf_state (F.texts shelf.old) (F.faults shelf.old) (F.calls shelf.old))
-        (shelf_state (F.texts shelf.new) (F.faults shelf.new) (F.calls shelf.new)))
+        (F.state shelf.old) (F.state shelf.new))
         (λ _. PartCame (ChecksCertificate (names_compared spec.now other.now pairs.now))
-        (shelf_state (F.texts shelf.old) (F.faults shelf.old) (F.calls shelf.old))
-        (shelf_state (F.texts shelf.new) (F.faults shelf.new) (F.calls shelf.new))) }
+        (F.state shelf.old) (F.state shelf.new)) }
 {
     match read_with_text(alloc, spec, shelf) {
         Ok(one) => {
@@ -89,11 +86,9 @@ fn against<F: Shelf>(
     requires held { (first : Acceptance) × HoldsWithText first one.old }
     ensures { (first : Acceptance) → HoldsWithText first one.old → MatchResult result
         (IsPrinted (AcceptsThen first other.now pairs.now)
-        (shelf_state (F.texts shelf.old) (F.faults shelf.old) (F.calls shelf.old))
-        (shelf_state (F.texts shelf.new) (F.faults shelf.new) (F.calls shelf.new)))
+        (F.state shelf.old) (F.state shelf.new))
         (λ _. PartCame (AcceptsThen first other.now pairs.now)
-        (shelf_state (F.texts shelf.old) (F.faults shelf.old) (F.calls shelf.old))
-        (shelf_state (F.texts shelf.new) (F.faults shelf.new) (F.calls shelf.new))) }
+        (F.state shelf.old) (F.state shelf.new)) }
 {
     match read_with_text(alloc, other, shelf) {
         Ok(second) => both(alloc, one, &second, pairs, shelf),
@@ -114,11 +109,9 @@ fn both<F: Shelf>(
     ensures { (first other : Acceptance) → HoldsWithText first one.old
         → HoldsWithText other second.now → MatchResult result
         (IsPrinted (ComparesThen first other pairs.now)
-        (shelf_state (F.texts shelf.old) (F.faults shelf.old) (F.calls shelf.old))
-        (shelf_state (F.texts shelf.new) (F.faults shelf.new) (F.calls shelf.new)))
+        (F.state shelf.old) (F.state shelf.new))
         (λ _. PartCame (ComparesThen first other pairs.now)
-        (shelf_state (F.texts shelf.old) (F.faults shelf.old) (F.calls shelf.old))
-        (shelf_state (F.texts shelf.new) (F.faults shelf.new) (F.calls shelf.new))) }
+        (F.state shelf.old) (F.state shelf.new)) }
 {
     if !same_data(one.accepted.book.flat(), second.accepted.book.flat()) {
         return plainly_refused(alloc, b"refused 901 OtherData\n");
@@ -141,11 +134,9 @@ fn certified<F: Shelf>(
     ensures { (first other : Acceptance) → HoldsWithText first one.old
         → HoldsWithText other second.now → MatchResult result
         (IsPrinted (GetsThen first other pairs.now)
-        (shelf_state (F.texts shelf.old) (F.faults shelf.old) (F.calls shelf.old))
-        (shelf_state (F.texts shelf.new) (F.faults shelf.new) (F.calls shelf.new)))
+        (F.state shelf.old) (F.state shelf.new))
         (λ _. PartCame (GetsThen first other pairs.now)
-        (shelf_state (F.texts shelf.old) (F.faults shelf.old) (F.calls shelf.old))
-        (shelf_state (F.texts shelf.new) (F.faults shelf.new) (F.calls shelf.new))) }
+        (F.state shelf.old) (F.state shelf.new)) }
 {
     match file(alloc, pairs, shelf) {
         Ok(text) => with_certificate(alloc, one, second, text.as_slice()),

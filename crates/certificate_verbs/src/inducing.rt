@@ -19,7 +19,6 @@ ghost use Rattle.command_words.specs.HandedOn.{
   HoldsWithRequirements,
   ShelfState,
   names_of,
-  shelf_state,
 };
 ghost use Rattle.command_words.specs.Words.{induced as names_induced};
 ghost use Rattle.induct_check.specs.FaultTexts.{IsTold};
@@ -62,11 +61,9 @@ pub fn induct<F: Shelf>(
 ) -> Result<Alone, NoMemory>
     ensures { MatchResult result
         (IsPrinted (ChecksInduction (names_induced spec.now proofs.now))
-        (shelf_state (F.texts shelf.old) (F.faults shelf.old) (F.calls shelf.old))
-        (shelf_state (F.texts shelf.new) (F.faults shelf.new) (F.calls shelf.new)))
+        (F.state shelf.old) (F.state shelf.new))
         (λ _. PartCame (ChecksInduction (names_induced spec.now proofs.now))
-        (shelf_state (F.texts shelf.old) (F.faults shelf.old) (F.calls shelf.old))
-        (shelf_state (F.texts shelf.new) (F.faults shelf.new) (F.calls shelf.new))) }
+        (F.state shelf.old) (F.state shelf.new)) }
 {
     match read_with_requirements(alloc, spec, shelf) {
         Ok(one) => {
@@ -87,11 +84,9 @@ fn proved<F: Shelf>(
 ) -> Result<Alone, NoMemory>
     ensures { (first : Acceptance) → HoldsWithRequirements first one.old → MatchResult result
         (IsPrinted (ProvesThen spec.now first proofs.now)
-        (shelf_state (F.texts shelf.old) (F.faults shelf.old) (F.calls shelf.old))
-        (shelf_state (F.texts shelf.new) (F.faults shelf.new) (F.calls shelf.new)))
+        (F.state shelf.old) (F.state shelf.new))
         (λ _. PartCame (ProvesThen spec.now first proofs.now)
-        (shelf_state (F.texts shelf.old) (F.faults shelf.old) (F.calls shelf.old))
-        (shelf_state (F.texts shelf.new) (F.faults shelf.new) (F.calls shelf.new))) }
+        (F.state shelf.old) (F.state shelf.new)) }
 {
     match file(alloc, proofs, shelf) {
         Ok(text) => checked(alloc, one, spec, text.as_slice()),

@@ -12,7 +12,7 @@ pub use Rattle.spec_acceptance.specs.Doing.{AsksBehind, Did, FileIsNotGot, Faile
 pub use Rattle.spec_acceptance.specs.Ending.{with_spec}
 pub use Rattle.spec_acceptance.specs.HandedOn.{GotFile, ShelfState, book_canon, book_chooses, book_is_canon, rules_in, precedence_in, Files}
 pub use Rattle.spec_acceptance.specs.HandedOn.{TextNames, place_text, rules_of, NumberedRule, IsFileOf, Gives, GivesSome, calls_after, Book}
-pub use Rattle.spec_acceptance.specs.HandedOn.{Refused, refused_of, refusal_text, shelf_state, names_of, AreRequirements, IsOpenedBy, item}
+pub use Rattle.spec_acceptance.specs.HandedOn.{Refused, refused_of, refusal_text, names_of, AreRequirements, IsOpenedBy, item}
 pub use Rattle.spec_acceptance.specs.HandedOn.{Chooses, Precedence, AreGotFrom, words_of, StartValuesAreGround, Gathered, GatheringOutcome}
 pub use Rattle.spec_acceptance.specs.HandedOn.{all_gathered, faulty, without_file, memory_wanted, Becomes, nothing_yet, with_type, Waiting}
 pub use Rattle.spec_acceptance.specs.HandedOn.{mention, MentionComesTo, read_before, one_too_many, in_place, not_read, no_file, a_type}

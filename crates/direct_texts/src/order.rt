@@ -1,7 +1,7 @@
 //! The order in which a session reads its input and writes its answers, by one record of both.
 
 use line_server::{Answer, Lines, SessionEnd, serve_session};
-use lotos_base::{Failed, MemShelf, NoMemory, Shelf, Sink, Source};
+use lotos_base::{Failed, MemShelf, NoMemory, Shelf, Sink, Source, Tally};
 use std::alloc::Global;
 use std::cell::RefCell;
 use std::test::Fail;
@@ -34,23 +34,25 @@ impl Record {
 struct Pieces<'a> {
     record: &'a Record,
     rest: &'a [&'a [u8]],
+    tally: Tally,
 }
 
 impl Source for Pieces<'_> {
+    ghost use Rattle.lotos_base.specs.Tally.{stream_of};
     ghost use Rattle.std.specs.Prelude.{None};
 
-    ghost left = { λ source. None };
-
-    ghost faults = { λ source. 0 };
+    ghost state = { λ source. stream_of None source.tally };
 
     fn read(&mut self, buf: &mut [u8]) -> Result<usize, Failed> {
         self.record.add(b"<");
         let [piece, rest @ ..] = self.rest else {
+            self.tally.moved_by(0);
             return Ok(0);
         };
         self.rest = rest;
         let count = piece.len().min(buf.len());
         buf[..count].copy_from_slice(&piece[..count]);
+        self.tally.moved_by(count);
         Ok(count)
     }
 }
@@ -59,17 +61,18 @@ impl Source for Pieces<'_> {
 #[derive(Drop)]
 struct Bytes<'a> {
     record: &'a Record,
+    tally: Tally,
 }
 
 impl Sink for Bytes<'_> {
+    ghost use Rattle.lotos_base.specs.Tally.{stream_of};
     ghost use Rattle.std.specs.Prelude.{None};
 
-    ghost written = { λ sink. None };
-
-    ghost faults = { λ sink. 0 };
+    ghost state = { λ sink. stream_of None sink.tally };
 
     fn write(&mut self, piece: &[u8]) -> Result<usize, Failed> {
         self.record.add(&piece[..1]);
+        self.tally.moved_by(1);
         Ok(1)
     }
 }
@@ -81,7 +84,7 @@ struct Echo;
 impl Lines for Echo {
     ghost State = { Unit {0} };
 
-    ghost state = { λ lines texts faults calls. tt };
+    ghost state = { λ lines shelf. tt };
 
     ghost machine = { record {
       comes = λ state line reply. Unit {0};
@@ -112,8 +115,12 @@ fn is_served(alloc: Global, pieces: &[&[u8]], done: &[u8]) -> bool {
     let mut input = Pieces {
         record: &record,
         rest: pieces,
+        tally: Tally::new(),
     };
-    let mut output = Bytes { record: &record };
+    let mut output = Bytes {
+        record: &record,
+        tally: Tally::new(),
+    };
     match serve_session(alloc, &mut Echo, &mut shelf, &mut input, &mut output) {
         SessionEnd::Finished => record.is(done),
         _ => false,

@@ -1,6 +1,6 @@
 -- Where the sessions of the code stand.
-use Rattle.std.specs.Prelude.{◌≡◌, ℕ, Option}
-use Rattle.lotos_base.specs.Outside.{Texts}
+use Rattle.std.specs.Prelude.{◌≡◌, Option}
+use Rattle.lotos_base.specs.Outside.{Texts, ShelfState}
 use Rattle.lotos_base.specs.Term.{Term}
 use Rattle.lotos_base.specs.Equation.{Data}
 use Rattle.session_log.specs.HandedOn.{Spec, book_canon, SessionBasis, Progress}
@@ -24,9 +24,9 @@ reached lines = progress_of lines.session.course
 abbrev pub standing_of : {M : Type 0} → HistoryLines M → Option Texts → Standing
 standing_of lines texts = record { basis = basis_of lines; progress = reached lines; texts = texts }
 
--- beside a shelf that has counted so many faults and so many calls
-abbrev pub point_of : {M : Type 0} → HistoryLines M → Option Texts → ℕ → ℕ → SessionPoint
-point_of lines texts faults calls = point (standing_of lines texts) faults calls
+-- beside a shelf that tells this of itself
+abbrev pub point_of : {M : Type 0} → HistoryLines M → ShelfState → SessionPoint
+point_of lines shelf = point (standing_of lines shelf.texts) shelf.faults shelf.calls
 
 -- The session is lawful over the data of the book, whose signature is the one that terms are printed by and read over. `suits`
 -- says which makers of menus suit.

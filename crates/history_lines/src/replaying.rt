@@ -53,15 +53,16 @@ impl<M: MenuMaker> HistoryLines<'_, M> {
     ) -> Result<Vec<u8>, NoMemory>
         requires serving { IsServing M.suits self.old }
         ensures answered { MatchResult result
-            (λ line. GivesAnswer (moment_of (standing_of self.old (F.texts shelf.old))
-            (F.faults shelf.old))
+            (λ line. GivesAnswer (moment_of (standing_of self.old (F.state shelf.old).texts)
+            (F.state shelf.old).faults)
             (replay_text name.now) line.items
-            (moment_of (standing_of self.new (F.texts shelf.new)) (F.faults shelf.new)))
+            (moment_of (standing_of self.new (F.state shelf.new).texts) (F.state shelf.new).faults))
             (λ _. IsBeforeOrBehind
-            (moment_of (standing_of self.old (F.texts shelf.old)) (F.faults shelf.old))
+            (moment_of (standing_of self.old (F.state shelf.old).texts) (F.state shelf.old).faults)
             (replay_text name.now)
-            (moment_of (standing_of self.new (F.texts shelf.new)) (F.faults shelf.new))) }
-        ensures called { F.calls shelf.new ≡ next_count (F.calls shelf.old) }
+            (moment_of (standing_of self.new (F.state shelf.new).texts)
+            (F.state shelf.new).faults)) }
+        ensures called { (F.state shelf.new).calls ≡ next_count (F.state shelf.old).calls }
         ensures serving_after { IsServing M.suits self.new }
     {
         let mut text = Vec::new(alloc);

@@ -43,18 +43,20 @@ impl<M: MenuMaker> HistoryLines<'_, M> {
     ) -> Result<Vec<u8>, NoMemory>
         requires serving { IsServing M.suits self.now }
         ensures answered { MatchResult result
-            (λ line. GivesAnswer (moment_of (standing_of self.now (F.texts shelf.old))
-            (F.faults shelf.old))
+            (λ line. GivesAnswer (moment_of (standing_of self.now (F.state shelf.old).texts)
+            (F.state shelf.old).faults)
             (save_trace name.now) line.items
-            (moment_of (standing_of self.now (F.texts shelf.new)) (F.faults shelf.new)))
+            (moment_of (standing_of self.now (F.state shelf.new).texts) (F.state shelf.new).faults))
             (λ _. IsBeforeOrBehind
-            (moment_of (standing_of self.now (F.texts shelf.old)) (F.faults shelf.old))
+            (moment_of (standing_of self.now (F.state shelf.old).texts) (F.state shelf.old).faults)
             (save_trace name.now)
-            (moment_of (standing_of self.now (F.texts shelf.new)) (F.faults shelf.new))) }
+            (moment_of (standing_of self.now (F.state shelf.new).texts)
+            (F.state shelf.new).faults)) }
         ensures called { MatchResult result
-            (λ _. CallsShelf (standing_of self.now (F.texts shelf.old)) (save_trace name.now)
-            (F.calls shelf.old) (F.calls shelf.new))
-            (λ _. MayCallShelf (save_trace name.now) (F.calls shelf.old) (F.calls shelf.new)) }
+            (λ _. CallsShelf (standing_of self.now (F.state shelf.old).texts) (save_trace name.now)
+            (F.state shelf.old).calls (F.state shelf.new).calls)
+            (λ _. MayCallShelf (save_trace name.now) (F.state shelf.old).calls
+            (F.state shelf.new).calls) }
     {
         match self.short_trace(alloc) {
             Ok(trace) => self.put_trace(alloc, name, trace.as_slice(), shelf),
@@ -87,15 +89,16 @@ impl<M: MenuMaker> HistoryLines<'_, M> {
         requires trace { trace.now ≡ shown_trace (basis_of self.now) (reached self.now) }
         requires short { length trace.now ≤ trace_limit }
         ensures answered { MatchResult result
-            (λ line. GivesAnswer (moment_of (standing_of self.now (F.texts shelf.old))
-            (F.faults shelf.old))
+            (λ line. GivesAnswer (moment_of (standing_of self.now (F.state shelf.old).texts)
+            (F.state shelf.old).faults)
             (save_trace name.now) line.items
-            (moment_of (standing_of self.now (F.texts shelf.new)) (F.faults shelf.new)))
+            (moment_of (standing_of self.now (F.state shelf.new).texts) (F.state shelf.new).faults))
             (λ _. IsBeforeOrBehind
-            (moment_of (standing_of self.now (F.texts shelf.old)) (F.faults shelf.old))
+            (moment_of (standing_of self.now (F.state shelf.old).texts) (F.state shelf.old).faults)
             (save_trace name.now)
-            (moment_of (standing_of self.now (F.texts shelf.new)) (F.faults shelf.new))) }
-        ensures called { F.calls shelf.new ≡ next_count (F.calls shelf.old) }
+            (moment_of (standing_of self.now (F.state shelf.new).texts)
+            (F.state shelf.new).faults)) }
+        ensures called { (F.state shelf.new).calls ≡ next_count (F.state shelf.old).calls }
     {
         match shelf.put(name, trace) {
             Ok(()) => name_line(alloc, b"saved ", name),

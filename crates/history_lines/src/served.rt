@@ -50,12 +50,12 @@ pub fn serve<F: Shelf, M: MenuMaker>(
     requires short { length line.now < 2 ^ 32 }
     ensures answered { MatchResult result
         (AppendsReply
-        (point_of lines.old (F.texts shelf.old) (F.faults shelf.old) (F.calls shelf.old)) line.now
-        (point_of lines.new (F.texts shelf.new) (F.faults shelf.new) (F.calls shelf.new))
+        (point_of lines.old (F.state shelf.old)) line.now
+        (point_of lines.new (F.state shelf.new))
         into.old.items into.new.items)
         (λ _. AppendsNothing
-        (point_of lines.old (F.texts shelf.old) (F.faults shelf.old) (F.calls shelf.old)) line.now
-        (point_of lines.new (F.texts shelf.new) (F.faults shelf.new) (F.calls shelf.new))
+        (point_of lines.old (F.state shelf.old)) line.now
+        (point_of lines.new (F.state shelf.new))
         into.old.items into.new.items) }
     ensures quits { IfOk result
         (λ served. ends_behind served ≡ ends_session (request_of line.now)) }

@@ -48,18 +48,20 @@ impl<M: MenuMaker> HistoryLines<'_, M> {
         requires serving { IsServing M.suits self.old }
         requires short { (n : ℕ) × (n + 1 < 2 ^ 32) × Carries n (wants request) }
         ensures answered { MatchResult result
-            (λ line. GivesAnswer (moment_of (standing_of self.old (F.texts shelf.old))
-            (F.faults shelf.old))
+            (λ line. GivesAnswer (moment_of (standing_of self.old (F.state shelf.old).texts)
+            (F.state shelf.old).faults)
             (wants request.entry) line.items
-            (moment_of (standing_of self.new (F.texts shelf.new)) (F.faults shelf.new)))
+            (moment_of (standing_of self.new (F.state shelf.new).texts) (F.state shelf.new).faults))
             (λ _. IsBeforeOrBehind
-            (moment_of (standing_of self.old (F.texts shelf.old)) (F.faults shelf.old))
+            (moment_of (standing_of self.old (F.state shelf.old).texts) (F.state shelf.old).faults)
             (wants request.entry)
-            (moment_of (standing_of self.new (F.texts shelf.new)) (F.faults shelf.new))) }
+            (moment_of (standing_of self.new (F.state shelf.new).texts)
+            (F.state shelf.new).faults)) }
         ensures called { MatchResult result
-            (λ _. CallsShelf (standing_of self.old (F.texts shelf.old)) (wants request.entry)
-            (F.calls shelf.old) (F.calls shelf.new))
-            (λ _. MayCallShelf (wants request.entry) (F.calls shelf.old) (F.calls shelf.new)) }
+            (λ _. CallsShelf (standing_of self.old (F.state shelf.old).texts) (wants request.entry)
+            (F.state shelf.old).calls (F.state shelf.new).calls)
+            (λ _. MayCallShelf (wants request.entry) (F.state shelf.old).calls
+            (F.state shelf.new).calls) }
         ensures serving_after { IsServing M.suits self.new }
     {
         match request {

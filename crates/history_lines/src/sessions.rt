@@ -4,7 +4,6 @@ ghost use Rattle.history_lines.specs.LinesView.{IsServing, point_of};
 ghost use Rattle.history_lines.specs.SessionMachine.{history_machine};
 ghost use Rattle.line_server.specs.Session.{IsSessionServed};
 ghost use Rattle.line_server.specs.Turn.{around};
-ghost use Rattle.line_server.specs.Writing.{stream};
 
 use crate::lines::HistoryLines;
 use line_server::{SessionEnd, serve_session};
@@ -23,12 +22,10 @@ pub fn serve_input<M: MenuMaker, F: Shelf, S: Source, K: Sink>(
 ) -> SessionEnd
     requires serving { IsServing M.suits lines.old }
     ensures served { IsSessionServed history_machine
-        (around (point_of lines.old (F.texts shelf.old) (F.faults shelf.old) (F.calls shelf.old))
-        (stream (S.left input.old) (S.faults input.old))
-        (stream (K.written output.old) (K.faults output.old)))
-        (around (point_of lines.new (F.texts shelf.new) (F.faults shelf.new) (F.calls shelf.new))
-        (stream (S.left input.new) (S.faults input.new))
-        (stream (K.written output.new) (K.faults output.new))) result }
+        (around (point_of lines.old (F.state shelf.old))
+        (S.state input.old) (K.state output.old))
+        (around (point_of lines.new (F.state shelf.new))
+        (S.state input.new) (K.state output.new)) result }
     ensures serving_after { IsServing M.suits lines.new }
 {
     serve_session(alloc, lines, shelf, input, output)

@@ -5,6 +5,7 @@ pub mod AnsweredLines
 pub mod ServedBytes
 mod TurnLemmas
 mod SessionTurns
+pub mod ReadBytes
 pub mod LineLemmas
 pub mod NumberLemmas
 pub mod RequestLemmas

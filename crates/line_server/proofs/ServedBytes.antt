@@ -1,7 +1,8 @@
 -- What bytes behind bytes do to a session.
 use Rattle.std.proofs.Common.{◌≡◌, ◌≢◌, inr, ℕ, ◌+◌, ◌<◌, Bool, true, false, List, [], ◌∷◌, ◌++◌, Option, take, drop, get_or, length, refl, sym, ap, subst, ◌∙◌}
 use Rattle.std.proofs.lemmas.List.{append-nil, take_more, take-append-drop}
-use Rattle.lotos_base.specs.Counts.{Rises}
+use Rattle.lotos_base.specs.Outside.{Stream, Stands, Fails}
+use Rattle.lotos_base.proofs.Streams.{stands_still, stands_then, fails_then}
 use Rattle.line_server.specs.Cutting.{complete, unfinished}
 use Rattle.line_server.specs.Machine.{Machine}
 use Rattle.line_server.specs.Answered.{Answered, no_line, ended_by, behind_one}
@@ -22,7 +23,7 @@ nothing_served machine line now = record {
   text = [];
   answered = no_line now.state;
   wrote = writes_none now.output.bytes now.output.bytes refl;
-  counts = refl;
+  stands = stands_still now.output;
 }
 
 pub byte_joined : {State : Type 0} (machine : Machine State) (line : List ℕ) (now : Moment State) (byte : ℕ) → byte ≢ 10
@@ -32,46 +33,46 @@ byte_joined machine line now byte plain = record {
   answered = subst (λ (it : List (List ℕ)). Answered machine now.state it [] now.state false) (sym (completes_none line byte plain))
       (no_line now.state);
   wrote = writes_none now.output.bytes now.output.bytes refl;
-  counts = refl;
+  stands = stands_still now.output;
 }
 
 -- a line was answered, and the answer written
 pub line_served : {State : Type 0} (machine : Machine State) (line : List ℕ) (state state_after : State)
-    (written written_after : Option (List ℕ))
-    (faults faults_after : ℕ) (answer : Answer)
-    → ServesLine machine state line state_after answer → WritesAll written written_after answer.text.items → faults_after ≡ faults
-    → HasServed machine line (moment state written faults) (10 ∷ []) (moment state_after written_after faults_after) answer.quits
-line_served {State} machine line state state_after written written_after faults faults_after answer serves wrote counts =
+    (output output_after : Stream) (answer : Answer)
+    → ServesLine machine state line state_after answer → WritesAll output.bytes output_after.bytes answer.text.items
+    → Stands output output_after
+    → HasServed machine line (moment state output) (10 ∷ []) (moment state_after output_after) answer.quits
+line_served {State} machine line state state_after output output_after answer serves wrote stands =
     by answer.quits refl
   where
-    whole : WritesAll written written_after serves.reply.text
-    whole = subst (λ (it : List ℕ). WritesAll written written_after it) serves.text wrote
+    whole : WritesAll output.bytes output_after.bytes serves.reply.text
+    whole = subst (λ (it : List ℕ). WritesAll output.bytes output_after.bytes it) serves.text wrote
 
     by : (quits : Bool) → answer.quits ≡ quits
-        → HasServed machine line (moment state written faults) (10 ∷ []) (moment state_after written_after faults_after) quits
+        → HasServed machine line (moment state output) (10 ∷ []) (moment state_after output_after) quits
     by true is = record {
       text = serves.reply.text;
       answered = subst (λ (it : State). Answered machine state (line ∷ []) serves.reply.text it true) (sym serves.next)
           (ended_by state line [] serves.reply serves.comes (sym serves.quits ∙ is));
       wrote = whole;
-      counts = counts;
+      stands = stands;
     }
     by false is = record {
       text = serves.reply.text ++ [];
       answered = subst (λ (it : State). Answered machine state (line ∷ []) (serves.reply.text ++ []) it false) (sym serves.next)
           (behind_one state serves.reply.next line [] serves.reply [] false serves.comes (sym serves.quits ∙ is)
           (no_line serves.reply.next));
-      wrote = subst (λ (it : List ℕ). WritesAll written written_after it) (sym (append-nil serves.reply.text)) whole;
-      counts = counts;
+      wrote = subst (λ (it : List ℕ). WritesAll output.bytes output_after.bytes it) (sym (append-nil serves.reply.text)) whole;
+      stands = stands;
     }
 
 -- the output failed at its answer
 pub line_failed : {State : Type 0} (machine : Machine State) (line : List ℕ) (later : List (List ℕ)) (state state_after : State)
-    (written written_after : Option (List ℕ)) (faults faults_after : ℕ) (answer : Answer)
-    → ServesLine machine state line state_after answer → WritesBeginning written written_after answer.text.items
-    → Rises faults faults_after
-    → StopsAt OutputFailed machine (line ∷ later) (moment state written faults) (moment state_after written_after faults_after)
-line_failed machine line later state state_after written written_after faults faults_after answer serves wrote rises = (
+    (output output_after : Stream) (answer : Answer)
+    → ServesLine machine state line state_after answer → WritesBeginning output.bytes output_after.bytes answer.text.items
+    → Fails output output_after
+    → StopsAt OutputFailed machine (line ∷ later) (moment state output) (moment state_after output_after)
+line_failed machine line later state state_after output output_after answer serves wrote fails = (
   record {
     text = [];
     between = state;
@@ -81,26 +82,26 @@ line_failed machine line later state state_after written written_after faults fa
     reply = serves.reply;
     comes = serves.comes;
     left = serves.next;
-    wrote = begins_alone written written_after serves.reply.text
-        (subst (λ (it : List ℕ). WritesBeginning written written_after it) serves.text wrote);
+    wrote = begins_alone output.bytes output_after.bytes serves.reply.text
+        (subst (λ (it : List ℕ). WritesBeginning output.bytes output_after.bytes it) serves.text wrote);
   },
-  rises,
+  fails,
 )
 
 -- memory was wanted for it
 pub line_wanted : {State : Type 0} (machine : Machine State) (line : List ℕ) (later : List (List ℕ)) (state state_after : State)
-    (written : Option (List ℕ)) (faults : ℕ) → machine.leaves state line state_after
-    → StopsAt NoMemory machine (line ∷ later) (moment state written faults) (moment state_after written faults)
-line_wanted machine line later state state_after written faults leaves = (
+    (output : Stream) → machine.leaves state line state_after
+    → StopsAt NoMemory machine (line ∷ later) (moment state output) (moment state_after output)
+line_wanted machine line later state state_after output leaves = (
   record {
     text = [];
     between = state;
     later = line ∷ later;
     answered = record { first = []; are = refl; answered = no_line state };
     left = inr leaves;
-    wrote = writes_none written written refl;
+    wrote = writes_none output.bytes output.bytes refl;
   },
-  refl,
+  stands_still output,
 )
 
 -- and before any
@@ -114,7 +115,7 @@ none_wanted machine now = (
     left = refl;
     wrote = writes_none now.output.bytes now.output.bytes refl;
   },
-  refl,
+  stands_still now.output,
 )
 
 -- ---- Bytes behind bytes
@@ -131,7 +132,7 @@ served_then machine line line_between one two three bytes others quits first is 
       second.text false quits first.answered refl
       (subst (λ (it : List ℕ). Answered machine two.state (complete it others) second.text three.state quits) is second.answered));
   wrote = writes_then one.output.bytes two.output.bytes three.output.bytes first.text second.text first.wrote second.wrote;
-  counts = second.counts ∙ first.counts;
+  stands = stands_then one.output two.output three.output first.stands second.stands;
 }
 
 pub served_still : {State : Type 0} (machine : Machine State) (line : List ℕ) (one two : Moment State) (bytes others : List ℕ)
@@ -144,25 +145,22 @@ served_still machine line one two bytes others first = record {
       (complete (unfinished line bytes) others) first.text true first.answered
       refl);
   wrote = first.wrote;
-  counts = first.counts;
+  stands = first.stands;
 }
-
-pub rises_from : (before between after : ℕ) → between ≡ before → Rises between after → Rises before after
-rises_from before between after is rises = subst (λ (it : ℕ). Rises it after) is rises
 
 -- serving stops at one of the lines behind these
 pub lines_stop : {State : Type 0} (why : Stop) (machine : Machine State) (lines more : List (List ℕ)) (one two three : Moment State)
     (text : List ℕ) → Answered machine one.state lines text two.state false → WritesAll one.output.bytes two.output.bytes text
-    → two.output.faults ≡ one.output.faults → StopsAt why machine more two three → StopsAt why machine (lines ++ more) one three
-lines_stop OutputFailed machine lines more one two three text answered wrote counts stops = (
+    → Stands one.output two.output → StopsAt why machine more two three → StopsAt why machine (lines ++ more) one three
+lines_stop OutputFailed machine lines more one two three text answered wrote stands stops = (
   failed_then machine one.state two.state three.state lines more text one.output.bytes two.output.bytes three.output.bytes answered wrote
       stops.0,
-  rises_from one.output.faults two.output.faults three.output.faults counts stops.1,
+  fails_then one.output two.output three.output stands stops.1,
 )
-lines_stop NoMemory machine lines more one two three text answered wrote counts stops = (
+lines_stop NoMemory machine lines more one two three text answered wrote stands stops = (
   wanted_then machine one.state two.state three.state lines more text one.output.bytes two.output.bytes three.output.bytes answered wrote
       stops.0,
-  stops.1 ∙ counts,
+  stands_then one.output two.output three.output stands stops.1,
 )
 
 pub lines_stop_still : {State : Type 0} (why : Stop) (machine : Machine State) (lines more : List (List ℕ)) (one two : Moment State)
@@ -179,7 +177,7 @@ stops_then why machine line line_between one two three bytes others first is sto
     subst (λ (it : List (List ℕ)). StopsAt why machine it one three) (sym (complete-append line bytes others))
     (lines_stop why machine (complete line bytes) (complete (unfinished line bytes) others) one two three first.text first.answered
     first.wrote
-    first.counts (subst (λ (it : List ℕ). StopsAt why machine (complete it others) two three) is stops))
+    first.stands (subst (λ (it : List ℕ). StopsAt why machine (complete it others) two three) is stops))
 
 pub stops_still : {State : Type 0} (why : Stop) (machine : Machine State) (line : List ℕ) (one two : Moment State) (bytes others : List ℕ)
     → StopsAt why machine (complete line bytes) one two → StopsAt why machine (complete line (bytes ++ others)) one two

@@ -1,11 +1,11 @@
--- One turn of a session: one read of the input, and the answers to the lines that it completes, all written before the turn ends.
+-- One turn of a session: one call of the input, and the answers to the lines that it completes, all written before the turn ends.
 use Rattle.std.specs.Prelude.{◌≡◌, ◌≢◌, ℕ, ◌+◌, ◌≤◌, Bool, true, false, List, [], ◌++◌, ◌∷◌, codes, length, Option, Some, IfSome}
-use Rattle.lotos_base.specs.Counts.{Rises}
-use Rattle.line_server.specs.Limits.{input_limit}
+use Rattle.lotos_base.specs.Outside.{Stream, Stands, FindsEnd, Fails, IsCall, FailsInCall}
+use Rattle.line_server.specs.Limits.{input_limit, piece_limit}
 use Rattle.line_server.specs.Cutting.{complete, unfinished, last_line}
 use Rattle.line_server.specs.Machine.{Machine}
 use Rattle.line_server.specs.Answered.{Answered}
-use Rattle.line_server.specs.Writing.{Stream, WritesAll, WritesBeginning}
+use Rattle.line_server.specs.Writing.{WritesAll, WritesBeginning}
 use Rattle.line_server.specs.Serving.{Moment, HasServed, StopsAt}
 use Rattle.line_server.specs.declared.ends.SessionEnd.{SessionEnd}
 use Rattle.line_server.specs.declared.ends.SessionEnd.TheVariants.{Finished, InputFailed, InputTooLong, OutputFailed, NoMemory}
@@ -41,6 +41,25 @@ IsReadOfInput before bytes after = IfSome before (λ left. (rest : List ℕ) × 
 abbrev pub IsAtEnd : Option (List ℕ) → Option (List ℕ) → Type 0
 IsAtEnd before after = IfSome before (λ left. (left ≡ []) × (after ≡ Some []))
 
+-- one call of the input gave these bytes
+pub record Gives (before after : Stream) (bytes : List ℕ) : Type 0 where
+  pub some : bytes ≢ []
+  pub short : length bytes ≤ piece_limit
+  pub read : IsReadOfInput before.bytes bytes after.bytes
+  pub call : IsCall before after (length bytes)
+  pub stands : Stands before after
+
+-- one call of the input found nothing left
+pub record GivesNone (before after : Stream) : Type 0 where
+  pub none : IsAtEnd before.bytes after.bytes
+  pub call : IsCall before after 0
+  pub ends : FindsEnd before after
+
+-- one call of the input failed
+pub record GivesFault (before after : Stream) : Type 0 where
+  pub kept : IsReadOfInput before.bytes [] after.bytes
+  pub fails : FailsInCall before after
+
 -- the closing lines, of an input that failed and of one that is too long
 abbrev pub failed_text : List ℕ
 failed_text = codes "input failed\n"
@@ -48,12 +67,10 @@ failed_text = codes "input failed\n"
 abbrev pub too_long_text : List ℕ
 too_long_text = codes "input too long\n"
 
--- The input gave some bytes, the lines that they complete were answered, and the answers written.
+-- A call of the input gave some bytes, the lines that they complete were answered, and the answers written.
 pub record TurnGoesOn {State : Type 0} (machine : Machine State) (before after : Turning State) : Type 0 where
   pub bytes : List ℕ
-  pub some : bytes ≢ []
-  pub read : IsReadOfInput before.around.input.bytes bytes after.around.input.bytes
-  pub counts : after.around.input.faults ≡ before.around.input.faults
+  pub gives : Gives before.around.input after.around.input bytes
   pub total : after.total ≡ before.total + length bytes
   pub within : after.total ≤ input_limit
   pub served : HasServed machine before.line (moment_in before.around) bytes (moment_in after.around) false
@@ -71,7 +88,7 @@ pub data LinesEndWith {State : Type 0} (machine : Machine State) (lines : List (
         (text : List ℕ) (quits : Bool) →
         Answered machine before.state lines text after.state quits →
         WritesAll before.output.bytes after.output.bytes text →
-        after.output.faults ≡ before.output.faults →
+        Stands before.output after.output →
         LinesEndWith machine lines before after Finished
     stopped_at :
         (why : Stop) →
@@ -82,11 +99,11 @@ pub data LinesEndWith {State : Type 0} (machine : Machine State) (lines : List (
 pub data SessionCloses (text : List ℕ) (end : SessionEnd) (before after : Stream) : SessionEnd → Type 0 where
   closed :
       WritesAll before.bytes after.bytes text →
-      after.faults ≡ before.faults →
+      Stands before after →
       SessionCloses text end before after end
   broken_off :
       WritesBeginning before.bytes after.bytes text →
-      Rises before.faults after.faults →
+      Fails before after →
       SessionCloses text end before after OutputFailed
 
 -- A line in these bytes ended the session, or serving stopped at one.
@@ -105,28 +122,24 @@ pub data EndsInPiece {State : Type 0} (machine : Machine State) (line bytes : Li
 pub data EndsIn {State : Type 0} (machine : Machine State) (before : Turning State) (after : Surroundings State) (end : SessionEnd) : Type 0
   where
     at_end :
-        IsAtEnd before.around.input.bytes after.input.bytes →
-        after.input.faults ≡ before.around.input.faults →
+        GivesNone before.around.input after.input →
         LinesEndWith machine (last_line before.line) (moment_in before.around) (moment_in after) end →
         EndsIn machine before after end
     input_failed :
-        IsReadOfInput before.around.input.bytes [] after.input.bytes →
-        Rises before.around.input.faults after.input.faults →
+        GivesFault before.around.input after.input →
         after.state ≡ before.around.state →
         SessionCloses failed_text InputFailed before.around.output after.output end →
         EndsIn machine before after end
     past_limit :
         (byte : ℕ) →
         before.total ≡ input_limit →
-        IsReadOfInput before.around.input.bytes (byte ∷ []) after.input.bytes →
-        after.input.faults ≡ before.around.input.faults →
+        Gives before.around.input after.input (byte ∷ []) →
         after.state ≡ before.around.state →
         SessionCloses too_long_text InputTooLong before.around.output after.output end →
         EndsIn machine before after end
     in_piece :
         (bytes : List ℕ) →
-        IsReadOfInput before.around.input.bytes bytes after.input.bytes →
+        Gives before.around.input after.input bytes →
         before.total + length bytes ≤ input_limit →
-        after.input.faults ≡ before.around.input.faults →
         EndsInPiece machine before.line bytes (moment_in before.around) (moment_in after) end →
         EndsIn machine before after end

@@ -1,13 +1,5 @@
--- What a source or a sink tells, and texts that are written whole, or in part, behind what was written.
+-- Texts that are written whole, or in part, behind what was written.
 use Rattle.std.specs.Prelude.{◌≡◌, ℕ, ◌<◌, List, ◌++◌, take, length, Option, Some, IfSome}
-
--- what an input has left, or an output has written, where it tells it, and its count of faults
-pub record Stream : Type 0 where
-  pub bytes : Option (List ℕ)
-  pub faults : ℕ
-
-abbrev pub stream : Option (List ℕ) → ℕ → Stream
-stream bytes faults = record { bytes = bytes; faults = faults }
 
 -- the whole text is written behind what was written, where the output tells it
 abbrev pub WritesAll : Option (List ℕ) → Option (List ℕ) → List ℕ → Type 0

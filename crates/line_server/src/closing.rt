@@ -3,7 +3,6 @@
 ghost use Rattle.line_server.specs.Cutting.{last_line};
 ghost use Rattle.line_server.specs.Serving.{IsLine, moment};
 ghost use Rattle.line_server.specs.Turn.{SessionCloses, LinesEndWith};
-ghost use Rattle.line_server.specs.Writing.{stream};
 
 use crate::ends::SessionEnd;
 use crate::lines::Lines;
@@ -13,8 +12,7 @@ use std::alloc::Global;
 
 /// Writes the closing line, and answers how the session ends.
 pub fn close<K: Sink>(output: &mut K, text: &[u8], end: SessionEnd) -> SessionEnd
-    ensures { SessionCloses text.now end (stream (K.written output.old) (K.faults output.old))
-        (stream (K.written output.new) (K.faults output.new)) result }
+    ensures { SessionCloses text.now end (K.state output.old) (K.state output.new) result }
 {
     match write_whole(output, text) {
         Ok(()) => end,
@@ -33,10 +31,8 @@ pub fn finish<L: Lines, F: Shelf, K: Sink>(
     requires ready { L.is_ready lines.old }
     requires line { IsLine line.now }
     ensures served { LinesEndWith L.machine (last_line line.now)
-        (moment (L.state lines.old (F.texts shelf.old) (F.faults shelf.old)
-        (F.calls shelf.old)) (K.written output.old) (K.faults output.old))
-        (moment (L.state lines.new (F.texts shelf.new) (F.faults shelf.new)
-        (F.calls shelf.new)) (K.written output.new) (K.faults output.new)) result }
+        (moment (L.state lines.old (F.state shelf.old)) (K.state output.old))
+        (moment (L.state lines.new (F.state shelf.new)) (K.state output.new)) result }
     ensures ready { L.is_ready lines.new }
 {
     if line.is_empty() {

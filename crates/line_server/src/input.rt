@@ -1,8 +1,7 @@
 //! The input of a session, read in pieces.
 
 ghost use Rattle.std.specs.Prelude.{◌≡◌, ◌+◌, ◌<◌, ◌≤◌, length, IfOk, OnErr, IfSome, MatchResult, Some};
-ghost use Rattle.lotos_base.specs.Counts.{Rises};
-ghost use Rattle.lotos_base.specs.Outside.{MovesInto};
+ghost use Rattle.lotos_base.specs.Outside.{FailsInCall, MovesInCall, MovesInto};
 ghost use Rattle.line_server.specs.Limits.{input_limit, piece_limit};
 
 use lotos_base::{Failed, Source};
@@ -25,20 +24,18 @@ pub fn room_at(total: usize) -> usize
     (INPUT_LIMIT - total).min(PIECE_LIMIT).max(1)
 }
 
-/// Reads the next bytes into the first `room` bytes of the piece.
+/// Reads the next bytes into the first `room` bytes of the piece, by one call.
 pub fn read_piece<S: Source>(input: &mut S, piece: &mut [u8], room: usize) -> Result<usize, Failed>
     requires some { 0 < room }
     requires fits { room ≤ length piece.old }
     ensures within { IfOk result (λ count. count ≤ room) }
     ensures length { length piece.new ≡ length piece.old }
-    ensures moved { IfOk result
-        (λ count. IfSome (S.left input.old) (λ bytes. MovesInto bytes (S.left input.new) piece.new
-        count)) }
-    ensures kept { OnErr result
-        (IfSome (S.left input.old) (λ bytes. S.left input.new ≡ Some bytes)) }
-    ensures counts { MatchResult result
-        (λ _. S.faults input.new ≡ S.faults input.old)
-        (λ _. Rises (S.faults input.old) (S.faults input.new)) }
+    ensures moved { IfOk result (λ count. IfSome (S.state input.old).bytes
+        (λ bytes. MovesInto bytes (S.state input.new).bytes piece.new count)) }
+    ensures kept { OnErr result (IfSome (S.state input.old).bytes
+        (λ bytes. (S.state input.new).bytes ≡ Some bytes)) }
+    ensures counted { MatchResult result (MovesInCall (S.state input.old) (S.state input.new))
+        (λ _. FailsInCall (S.state input.old) (S.state input.new)) }
 {
     input.read(&mut piece[..room])
 }

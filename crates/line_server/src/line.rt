@@ -22,16 +22,12 @@ pub fn serve_line<L: Lines, F: Shelf, K: Sink>(
     requires plain { IsLine line.old.items }
     ensures served { MatchResult result
         (HasServed L.machine line.old.items
-        (moment (L.state lines.old (F.texts shelf.old) (F.faults shelf.old)
-        (F.calls shelf.old)) (K.written output.old) (K.faults output.old))
+        (moment (L.state lines.old (F.state shelf.old)) (K.state output.old))
         (10 ∷ [])
-        (moment (L.state lines.new (F.texts shelf.new) (F.faults shelf.new)
-        (F.calls shelf.new)) (K.written output.new) (K.faults output.new)))
+        (moment (L.state lines.new (F.state shelf.new)) (K.state output.new)))
         (λ stop. StopsAt stop L.machine (line.old.items ∷ [])
-        (moment (L.state lines.old (F.texts shelf.old) (F.faults shelf.old)
-        (F.calls shelf.old)) (K.written output.old) (K.faults output.old))
-        (moment (L.state lines.new (F.texts shelf.new) (F.faults shelf.new)
-        (F.calls shelf.new)) (K.written output.new) (K.faults output.new))) }
+        (moment (L.state lines.old (F.state shelf.old)) (K.state output.old))
+        (moment (L.state lines.new (F.state shelf.new)) (K.state output.new))) }
     ensures cleared { OnOk result (line.new.items ≡ []) }
     ensures ready { L.is_ready lines.new }
 {

@@ -1,7 +1,7 @@
 //! A machine that answers lines.
 
-ghost use Rattle.std.specs.Prelude.{ℕ, List, Option, MatchResult};
-ghost use Rattle.lotos_base.specs.Outside.{Texts};
+ghost use Rattle.std.specs.Prelude.{MatchResult};
+ghost use Rattle.lotos_base.specs.Outside.{ShelfState};
 ghost use Rattle.line_server.specs.Machine.{Machine};
 ghost use Rattle.line_server.specs.Serving.{IsLine, ServesLine};
 
@@ -22,9 +22,8 @@ pub trait Lines {
     // Where a session stands beside a shelf, as a plain value.
     ghost State: { Type 0 };
 
-    // That of this one, beside a shelf that tells these texts and has counted so many faults and
-    // calls.
-    ghost state: { Self → Option Texts → ℕ → ℕ → State };
+    // That of this one, beside a shelf that tells this of itself.
+    ghost state: { Self → ShelfState → State };
 
     // What a line comes to.
     ghost machine: { Machine State };
@@ -43,10 +42,10 @@ pub trait Lines {
         requires plain { IsLine line.now }
         ensures served { MatchResult result
             (ServesLine machine
-            (state self.old (F.texts shelf.old) (F.faults shelf.old) (F.calls shelf.old)) line.now
-            (state self.new (F.texts shelf.new) (F.faults shelf.new) (F.calls shelf.new)))
+            (state self.old (F.state shelf.old)) line.now
+            (state self.new (F.state shelf.new)))
             (λ _. machine.leaves
-            (state self.old (F.texts shelf.old) (F.faults shelf.old) (F.calls shelf.old)) line.now
-            (state self.new (F.texts shelf.new) (F.faults shelf.new) (F.calls shelf.new))) }
+            (state self.old (F.state shelf.old)) line.now
+            (state self.new (F.state shelf.new))) }
         ensures ready { is_ready self.new };
 }

@@ -34,16 +34,12 @@ pub fn serve_piece<L: Lines, F: Shelf, K: Sink>(
     requires short { length line.old.items + length piece.now ≤ input_limit }
     ensures served { MatchResult result
         (HasServed L.machine line.old.items
-        (moment (L.state lines.old (F.texts shelf.old) (F.faults shelf.old)
-        (F.calls shelf.old)) (K.written output.old) (K.faults output.old))
+        (moment (L.state lines.old (F.state shelf.old)) (K.state output.old))
         piece.now
-        (moment (L.state lines.new (F.texts shelf.new) (F.faults shelf.new)
-        (F.calls shelf.new)) (K.written output.new) (K.faults output.new)))
+        (moment (L.state lines.new (F.state shelf.new)) (K.state output.new)))
         (λ stop. StopsAt stop L.machine (complete line.old.items piece.now)
-        (moment (L.state lines.old (F.texts shelf.old) (F.faults shelf.old)
-        (F.calls shelf.old)) (K.written output.old) (K.faults output.old))
-        (moment (L.state lines.new (F.texts shelf.new) (F.faults shelf.new)
-        (F.calls shelf.new)) (K.written output.new) (K.faults output.new))) }
+        (moment (L.state lines.old (F.state shelf.old)) (K.state output.old))
+        (moment (L.state lines.new (F.state shelf.new)) (K.state output.new))) }
     ensures begins { IfOk result (λ quits. Begins quits line.old.items piece.now line.new.items) }
     ensures plain { OnOk result (All (λ byte. byte ≢ 10) line.new.items) }
     ensures short { OnOk result (length line.new.items ≤ length line.old.items + length piece.now) }
@@ -72,16 +68,12 @@ fn serve_byte<L: Lines, F: Shelf, K: Sink>(
     requires line { IsLine line.old.items }
     ensures served { MatchResult result
         (HasServed L.machine line.old.items
-        (moment (L.state lines.old (F.texts shelf.old) (F.faults shelf.old)
-        (F.calls shelf.old)) (K.written output.old) (K.faults output.old))
+        (moment (L.state lines.old (F.state shelf.old)) (K.state output.old))
         (byte ∷ [])
-        (moment (L.state lines.new (F.texts shelf.new) (F.faults shelf.new)
-        (F.calls shelf.new)) (K.written output.new) (K.faults output.new)))
+        (moment (L.state lines.new (F.state shelf.new)) (K.state output.new)))
         (λ stop. StopsAt stop L.machine (complete line.old.items (byte ∷ []))
-        (moment (L.state lines.old (F.texts shelf.old) (F.faults shelf.old)
-        (F.calls shelf.old)) (K.written output.old) (K.faults output.old))
-        (moment (L.state lines.new (F.texts shelf.new) (F.faults shelf.new)
-        (F.calls shelf.new)) (K.written output.new) (K.faults output.new))) }
+        (moment (L.state lines.old (F.state shelf.old)) (K.state output.old))
+        (moment (L.state lines.new (F.state shelf.new)) (K.state output.new))) }
     ensures begins { IfOk result (λ quits. Begins quits line.old.items (byte ∷ []) line.new.items) }
     ensures plain { OnOk result (All (λ it. it ≢ 10) line.new.items) }
     ensures short { OnOk result (length line.new.items ≤ length line.old.items + 1) }

@@ -4,7 +4,6 @@ ghost use Rattle.std.specs.Prelude.{◌≡◌, length};
 ghost use Rattle.line_server.specs.Limits.{piece_limit};
 ghost use Rattle.line_server.specs.Session.{IsServedInTurns, IsSessionServed};
 ghost use Rattle.line_server.specs.Turn.{around};
-ghost use Rattle.line_server.specs.Writing.{stream};
 
 use crate::ends::SessionEnd;
 use crate::input::PIECE_LIMIT;
@@ -30,19 +29,13 @@ pub fn serve_session<L: Lines, F: Shelf, S: Source, K: Sink>(
 ) -> SessionEnd
     requires ready { L.is_ready lines.old }
     ensures turns { IsServedInTurns L.machine
-        (around (L.state lines.old (F.texts shelf.old) (F.faults shelf.old)
-        (F.calls shelf.old)) (stream (S.left input.old) (S.faults input.old))
-        (stream (K.written output.old) (K.faults output.old)))
-        (around (L.state lines.new (F.texts shelf.new) (F.faults shelf.new)
-        (F.calls shelf.new)) (stream (S.left input.new) (S.faults input.new))
-        (stream (K.written output.new) (K.faults output.new))) result }
+        (around (L.state lines.old (F.state shelf.old)) (S.state input.old) (K.state output.old))
+        (around (L.state lines.new (F.state shelf.new)) (S.state input.new)
+        (K.state output.new)) result }
     ensures served { IsSessionServed L.machine
-        (around (L.state lines.old (F.texts shelf.old) (F.faults shelf.old)
-        (F.calls shelf.old)) (stream (S.left input.old) (S.faults input.old))
-        (stream (K.written output.old) (K.faults output.old)))
-        (around (L.state lines.new (F.texts shelf.new) (F.faults shelf.new)
-        (F.calls shelf.new)) (stream (S.left input.new) (S.faults input.new))
-        (stream (K.written output.new) (K.faults output.new))) result }
+        (around (L.state lines.old (F.state shelf.old)) (S.state input.old) (K.state output.old))
+        (around (L.state lines.new (F.state shelf.new)) (S.state input.new)
+        (K.state output.new)) result }
     ensures ready { L.is_ready lines.new }
 {
     let mut piece = [0u8; PIECE_LIMIT];
@@ -61,12 +54,9 @@ fn serve_turns<L: Lines, F: Shelf, S: Source, K: Sink>(
     requires ready { L.is_ready lines.old }
     requires piece { length piece.old ≡ piece_limit }
     ensures turns { IsServedInTurns L.machine
-        (around (L.state lines.old (F.texts shelf.old) (F.faults shelf.old)
-        (F.calls shelf.old)) (stream (S.left input.old) (S.faults input.old))
-        (stream (K.written output.old) (K.faults output.old)))
-        (around (L.state lines.new (F.texts shelf.new) (F.faults shelf.new)
-        (F.calls shelf.new)) (stream (S.left input.new) (S.faults input.new))
-        (stream (K.written output.new) (K.faults output.new))) result }
+        (around (L.state lines.old (F.state shelf.old)) (S.state input.old) (K.state output.old))
+        (around (L.state lines.new (F.state shelf.new)) (S.state input.new)
+        (K.state output.new)) result }
     ensures ready { L.is_ready lines.new }
 {
     let mut line = Vec::new(alloc);

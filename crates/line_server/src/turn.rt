@@ -4,7 +4,6 @@ ghost use Rattle.std.specs.Prelude.{◌≡◌, ◌≢◌, ◌+◌, ◌≤◌, le
 ghost use Rattle.std.specs.List.{All};
 ghost use Rattle.line_server.specs.Limits.{input_limit, piece_limit};
 ghost use Rattle.line_server.specs.Turn.{EndsIn, TurnGoesOn, around, turning};
-ghost use Rattle.line_server.specs.Writing.{stream};
 
 use crate::closing::{close, finish};
 use crate::ends::{SessionEnd, Stop};
@@ -35,22 +34,17 @@ pub fn serve_turn<L: Lines, F: Shelf, S: Source, K: Sink>(
     requires within { total ≤ input_limit }
     ensures turned { MatchResult result
         (λ count. TurnGoesOn L.machine
-        (turning (around (L.state lines.old (F.texts shelf.old) (F.faults shelf.old)
-        (F.calls shelf.old)) (stream (S.left input.old) (S.faults input.old))
-        (stream (K.written output.old) (K.faults output.old)))
+        (turning (around (L.state lines.old (F.state shelf.old)) (S.state input.old)
+        (K.state output.old))
         line.old.items total)
-        (turning (around (L.state lines.new (F.texts shelf.new) (F.faults shelf.new)
-        (F.calls shelf.new)) (stream (S.left input.new) (S.faults input.new))
-        (stream (K.written output.new) (K.faults output.new)))
+        (turning (around (L.state lines.new (F.state shelf.new)) (S.state input.new)
+        (K.state output.new))
         line.new.items (total + count)))
         (EndsIn L.machine
-        (turning (around (L.state lines.old (F.texts shelf.old) (F.faults shelf.old)
-        (F.calls shelf.old)) (stream (S.left input.old) (S.faults input.old))
-        (stream (K.written output.old) (K.faults output.old)))
+        (turning (around (L.state lines.old (F.state shelf.old)) (S.state input.old)
+        (K.state output.old))
         line.old.items total)
-        (around (L.state lines.new (F.texts shelf.new) (F.faults shelf.new)
-        (F.calls shelf.new)) (stream (S.left input.new) (S.faults input.new))
-        (stream (K.written output.new) (K.faults output.new)))) }
+        (around (L.state lines.new (F.state shelf.new)) (S.state input.new) (K.state output.new))) }
     ensures plain { OnOk result (All (λ byte. byte ≢ 10) line.new.items) }
     ensures short { IfOk result (λ count. length line.new.items ≤ total + count) }
     ensures within { IfOk result (λ count. total + count ≤ input_limit) }

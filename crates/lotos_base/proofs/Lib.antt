@@ -24,3 +24,4 @@ pub mod Bytes
 pub mod Members
 pub mod Tests
 pub mod Pieces
+pub mod Streams

@@ -10,6 +10,10 @@ last_count = 18446744073709551615
 abbrev pub next_count : ℕ → ℕ
 next_count count = if nat_lt count last_count then count + 1 else count
 
+-- the count after so many more, which stays at the last value
+abbrev pub raised_count : ℕ → ℕ → ℕ
+raised_count count more = if nat_lt (count + more) last_count then count + more else last_count
+
 -- a count of faults rose, or it stands at the last value and cannot
 abbrev pub Rises : ℕ → ℕ → Type 0
 Rises before after = (before < after) ⊎ ((before ≡ last_count) × (after ≡ last_count))

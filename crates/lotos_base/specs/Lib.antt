@@ -1,5 +1,6 @@
 pub mod Counts
 pub mod Outside
+pub mod Tally
 pub mod Name
 pub mod WrittenTerm
 pub mod WrittenView

@@ -3,7 +3,7 @@ use Rattle.std.specs.Prelude.{◌≡◌, ℕ, ◌<◌, List, [], ◌∷◌, take
 use Rattle.std.specs.Str.{bytes_eq}
 use Rattle.std.specs.List.{HoldsAt}
 use Rattle.std.specs.declared.alloc.Global.{Global}
-use Rattle.lotos_base.specs.Outside.{Texts}
+use Rattle.lotos_base.specs.Outside.{Texts, ShelfState}
 use Rattle.lotos_base.specs.declared.memory_shelf.MemShelf.{MemShelf}
 
 -- a name with its text
@@ -27,12 +27,16 @@ texts_of shelf = text_under shelf.files.items
 
 -- how many faults it has counted
 abbrev pub faults_of : MemShelf → ℕ
-faults_of shelf = shelf.schedule.faults
+faults_of shelf = shelf.faults
 
 -- how many calls were made, up to the last value of the count
 abbrev pub calls_of : MemShelf → ℕ
-calls_of shelf = shelf.schedule.calls
+calls_of shelf = shelf.calls
 
 -- the numbers of the calls that fail
 abbrev pub failing_of : MemShelf → List ℕ
-failing_of shelf = shelf.schedule.failing.items
+failing_of shelf = shelf.failing.items
+
+-- what it tells of itself
+abbrev pub shelf_state : MemShelf → ShelfState
+shelf_state shelf = record { texts = Some (texts_of shelf); faults = faults_of shelf; calls = calls_of shelf }

@@ -1,14 +1,66 @@
--- What a read, a get and a put of the outside do to what is left, to the texts and to the count of faults.
+-- What a call of the outside does to what is left or was written, to the texts, and to the counts of faults and of calls.
 use Rattle.std.specs.Prelude.{◌≡◌, ◌≢◌, ℕ, ◌≤◌, ◌↔◌, List, [], take, drop, length, Option, Some, None, IfSome, IsSomeAnd, Result, Ok, Err}
 use Rattle.lotos_base.specs.declared.faults.GetFault.{GetFault}
 use Rattle.lotos_base.specs.declared.faults.GetFault.TheVariants as get_fault
 use Rattle.lotos_base.specs.declared.faults.PutFault.{PutFault}
 use Rattle.lotos_base.specs.declared.faults.PutFault.TheVariants as put_fault
-use Rattle.lotos_base.specs.Counts.{Rises}
+use Rattle.lotos_base.specs.Counts.{Rises, next_count, raised_count}
+
+-- What an input or an output tells of itself: the bytes that it has left, or has written, where it tells them; how many bytes its
+-- calls moved; how many faults it counted; how many calls were made, how many of these moved no byte, and which was the last of
+-- these. The counts go up to their last value.
+pub record Stream : Type 0 where
+  pub bytes : Option (List ℕ)
+  pub moved : ℕ
+  pub faults : ℕ
+  pub calls : ℕ
+  pub vain : ℕ
+  pub last_vain : ℕ
+
+-- no fault was counted, and no call moved no byte
+pub record Stands (before after : Stream) : Type 0 where
+  pub faults : after.faults ≡ before.faults
+  pub vain : after.vain ≡ before.vain
+  pub last_vain : after.last_vain ≡ before.last_vain
+
+-- no fault was counted, and one call moved no byte, the last one
+pub record FindsEnd (before after : Stream) : Type 0 where
+  pub faults : after.faults ≡ before.faults
+  pub vain : after.vain ≡ next_count before.vain
+  pub last_vain : after.last_vain ≡ after.calls
+
+-- a fault was counted, and one call moved no byte, the last one
+pub record Fails (before after : Stream) : Type 0 where
+  pub faults : Rises before.faults after.faults
+  pub vain : after.vain ≡ next_count before.vain
+  pub last_vain : after.last_vain ≡ after.calls
+
+-- a call that moved so many bytes is one more
+pub record IsCall (before after : Stream) (count : ℕ) : Type 0 where
+  pub calls : after.calls ≡ next_count before.calls
+  pub moved : after.moved ≡ raised_count before.moved count
+
+-- a call moved so many bytes
+pub record MovesInCall (before after : Stream) (count : ℕ) : Type 0 where
+  pub call : IsCall before after count
+  pub some : count ≢ 0 → Stands before after
+  pub none : count ≡ 0 → FindsEnd before after
+
+-- a call failed
+pub record FailsInCall (before after : Stream) : Type 0 where
+  pub calls : after.calls ≡ next_count before.calls
+  pub moved : after.moved ≡ before.moved
+  pub fails : Fails before after
 
 -- the texts of a shelf by name
 abbrev pub Texts : Type 0
 Texts = List ℕ → Option (List ℕ)
+
+-- what a shelf tells of itself: its texts, where it tells them, and its counts of faults and of calls
+pub record ShelfState : Type 0 where
+  pub texts : Option Texts
+  pub faults : ℕ
+  pub calls : ℕ
 
 -- a read of `count` bytes moves the first of the bytes left into the buffer; it moves none exactly
 -- where nothing is left

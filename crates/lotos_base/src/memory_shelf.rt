@@ -1,20 +1,22 @@
 //! A shelf over texts in memory.
 
-ghost use Rattle.std.specs.Prelude.{◌≡◌, ℕ, ◌<◌, ◌≤◌, ◌↔◌, [], Some, None, length, OnErr, OnOk, IsOk, IsErr, IfSome, MatchResult, MatchOption, option_copied};
+ghost use Rattle.std.specs.Prelude.{◌≡◌, ℕ, ◌<◌, ◌≤◌, ◌↔◌, [], Some, None, length, OnErr, OnOk, IfSome, MatchResult, MatchOption, option_copied};
 ghost use Rattle.lotos_base.specs.Counts.{IsListedCall, Rises, next_count};
 ghost use Rattle.lotos_base.specs.Outside.{Gets, GetAnswers, GetCounts, PutLeaves, PutCounts, Puts};
 ghost use Rattle.lotos_base.specs.MemShelf.{text_under, IsFirstNamed};
 
 use crate::faults::{GetFault, PutFault};
 use crate::outside::Shelf;
-use crate::schedule::Schedule;
+use crate::schedule::call_fails;
 use std::alloc::AllocError;
 
 /// Texts by name, and the numbers (from 1) of the calls that fail.
 #[derive(Debug, Drop)]
 pub struct MemShelf {
     files: Vec<(String, Vec<u8>)>,
-    schedule: Schedule,
+    failing: Vec<u64>,
+    calls: u64,
+    faults: u64,
 }
 
 impl MemShelf {
@@ -30,19 +32,23 @@ impl MemShelf {
     {
         MemShelf {
             files,
-            schedule: Schedule::new(failing),
+            failing,
+            calls: 0,
+            faults: 0,
         }
     }
 }
 
 impl Shelf for MemShelf {
-    ghost use Rattle.lotos_base.specs.MemShelf.{texts_of, faults_of, calls_of, failing_of};
+    ghost use Rattle.lotos_base.specs.MemShelf.{
+      texts_of,
+      faults_of,
+      calls_of,
+      failing_of,
+      shelf_state,
+    };
 
-    ghost texts = { λ shelf. Some (texts_of shelf) };
-
-    ghost faults = { faults_of };
-
-    ghost calls = { calls_of };
+    ghost state = { shelf_state };
 
     fn get(&mut self, name: &str, limit: usize, into: &mut Vec<u8>) -> Result<(), GetFault>
         ensures answers { GetAnswers result (Some (texts_of self.old)) name.now limit into.new.items }
@@ -58,8 +64,7 @@ impl Shelf for MemShelf {
         ensures failing { failing_of self.new ≡ failing_of self.old }
     {
         into.clear();
-        if self.schedule.begin() {
-            self.schedule.fail();
+        if call_fails(self.failing.as_slice(), &mut self.calls, &mut self.faults) {
             return Err(GetFault::Failed);
         }
         let Some(text) = text_named(self.files.as_slice(), name) else {
@@ -82,8 +87,7 @@ impl Shelf for MemShelf {
             ↔ IsListedCall (failing_of self.old) (calls_of self.old) }
         ensures failing { failing_of self.new ≡ failing_of self.old }
     {
-        if self.schedule.begin() {
-            self.schedule.fail();
+        if call_fails(self.failing.as_slice(), &mut self.calls, &mut self.faults) {
             return Err(PutFault::Failed);
         }
         match store(&mut self.files, name, bytes) {

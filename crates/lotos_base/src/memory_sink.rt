@@ -1,11 +1,13 @@
 //! A sink over memory that was taken beforehand.
 
 ghost use Rattle.std.specs.Prelude.{◌≡◌, ℕ, ◌<◌, ◌≤◌, ◌-◌, ◌↔◌, ◌⊎◌, ◌++◌, [], Some, take, length, min, IfOk, OnErr, IsErr, MatchResult, vec_capacity, vec_len};
-ghost use Rattle.lotos_base.specs.Counts.{IsListedCall, Rises, next_count};
+ghost use Rattle.lotos_base.specs.Counts.{IsListedCall, next_count};
+ghost use Rattle.lotos_base.specs.Outside.{FailsInCall, MovesInCall};
 
 use crate::faults::{Failed, NoMemory};
 use crate::outside::Sink;
-use crate::schedule::Schedule;
+use crate::schedule::is_listed;
+use crate::tally::Tally;
 use std::alloc::Global;
 
 /// Bytes that were written, the room for them, and the numbers (from 1) of the calls that fail.
@@ -13,7 +15,8 @@ use std::alloc::Global;
 pub struct MemSink {
     bytes: Vec<u8>,
     room: usize,
-    schedule: Schedule,
+    failing: Vec<u64>,
+    tally: Tally,
     ghost has_room: { room ≤ vec_capacity bytes },
 }
 
@@ -42,7 +45,8 @@ impl MemSink {
         Ok(MemSink {
             bytes,
             room,
-            schedule: Schedule::new(failing),
+            failing,
+            tally: Tally::new(),
         })
     }
 
@@ -61,11 +65,10 @@ impl Sink for MemSink {
       faults_of,
       calls_of,
       failing_of,
+      sink_state,
     };
 
-    ghost written = { λ sink. Some (written_of sink) };
-
-    ghost faults = { faults_of };
+    ghost state = { sink_state };
 
     fn write(&mut self, piece: &[u8]) -> Result<usize, Failed>
         requires { 0 < length piece.now }
@@ -74,8 +77,9 @@ impl Sink for MemSink {
         ensures appended { IfOk result (λ count. written_of self.new ≡ written_of self.old
             ++ take count piece.now) }
         ensures kept { OnErr result (written_of self.new ≡ written_of self.old) }
-        ensures counts { MatchResult result (λ _. faults_of self.new ≡ faults_of self.old)
-            (λ _. Rises (faults_of self.old) (faults_of self.new)) }
+        ensures counted { MatchResult result
+            (MovesInCall (sink_state self.old) (sink_state self.new))
+            (λ _. FailsInCall (sink_state self.old) (sink_state self.new)) }
 
         // It takes what fits, and fails exactly where nothing does or where the call is listed.
         ensures fits { IfOk result (λ count. count
@@ -86,15 +90,18 @@ impl Sink for MemSink {
         ensures room { room_of self.new ≡ room_of self.old }
         ensures failing { failing_of self.new ≡ failing_of self.old }
     {
-        let listed = self.schedule.begin();
+        let listed = is_listed(self.failing.as_slice(), self.tally.calls);
         let room = self.room.saturating_sub(self.bytes.len());
         let count = piece.len().min(room);
         if listed || count == 0 {
-            self.schedule.fail();
+            self.tally.failed();
             return Err(Failed);
         }
         match self.bytes.extend_from_slice(&piece[..count]) {
-            Ok(()) => Ok(count),
+            Ok(()) => {
+                self.tally.moved_by(count);
+                Ok(count)
+            }
             Err(_) => unreachable!(),
         }
     }

@@ -1,19 +1,21 @@
 //! A source over bytes in memory.
 
 ghost use Rattle.std.specs.Prelude.{◌≡◌, ℕ, ◌<◌, ◌≤◌, ◌↔◌, Some, drop, length, min, IfOk, OnOk, OnErr, IfSome, IsErr, MatchResult};
-ghost use Rattle.lotos_base.specs.Counts.{IsListedCall, Rises, next_count};
-ghost use Rattle.lotos_base.specs.Outside.{MovesInto};
+ghost use Rattle.lotos_base.specs.Counts.{IsListedCall, next_count};
+ghost use Rattle.lotos_base.specs.Outside.{FailsInCall, MovesInCall, MovesInto};
 
 use crate::faults::Failed;
 use crate::outside::Source;
-use crate::schedule::Schedule;
+use crate::schedule::is_listed;
+use crate::tally::Tally;
 
 /// Bytes to be read, and the numbers (from 1) of the calls that fail.
 #[derive(Debug, Drop)]
 pub struct MemSource {
     bytes: Vec<u8>,
     start: usize,
-    schedule: Schedule,
+    failing: Vec<u64>,
+    tally: Tally,
 }
 
 impl MemSource {
@@ -30,17 +32,22 @@ impl MemSource {
         MemSource {
             bytes,
             start: 0,
-            schedule: Schedule::new(failing),
+            failing,
+            tally: Tally::new(),
         }
     }
 }
 
 impl Source for MemSource {
-    ghost use Rattle.lotos_base.specs.MemSource.{left_of, faults_of, calls_of, failing_of};
+    ghost use Rattle.lotos_base.specs.MemSource.{
+      left_of,
+      faults_of,
+      calls_of,
+      failing_of,
+      source_state,
+    };
 
-    ghost left = { λ source. Some (left_of source) };
-
-    ghost faults = { faults_of };
+    ghost state = { source_state };
 
     fn read(&mut self, buf: &mut [u8]) -> Result<usize, Failed>
         requires { 0 < length buf.old }
@@ -48,8 +55,9 @@ impl Source for MemSource {
         ensures moved { IfOk result (λ count.
             MovesInto (left_of self.old) (Some (left_of self.new)) buf.new count) }
         ensures kept { OnErr result (left_of self.new ≡ left_of self.old) }
-        ensures counts { MatchResult result (λ _. faults_of self.new ≡ faults_of self.old)
-            (λ _. Rises (faults_of self.old) (faults_of self.new)) }
+        ensures counted { MatchResult result
+            (MovesInCall (source_state self.old) (source_state self.new))
+            (λ _. FailsInCall (source_state self.old) (source_state self.new)) }
 
         // It takes as much as fits, and leaves the rest of the buffer, all of it after a fault.
         ensures fits { IfOk result (λ count. count
@@ -62,14 +70,15 @@ impl Source for MemSource {
         ensures calls { calls_of self.new ≡ next_count (calls_of self.old) }
         ensures failing { failing_of self.new ≡ failing_of self.old }
     {
-        if self.schedule.begin() {
-            self.schedule.fail();
+        if is_listed(self.failing.as_slice(), self.tally.calls) {
+            self.tally.failed();
             return Err(Failed);
         }
         let rest = self.bytes.as_slice().get(self.start..).unwrap_or(&[]);
         let count = rest.len().min(buf.len());
         buf[..count].copy_from_slice(&rest[..count]);
         self.start += count;
+        self.tally.moved_by(count);
         Ok(count)
     }
 }

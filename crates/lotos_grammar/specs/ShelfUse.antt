@@ -3,16 +3,8 @@ use Rattle.std.specs.Prelude.{◌≡◌, ℕ, ◌+◌, ◌⊎◌, List, [], ◌�
 use Rattle.lotos_base.specs.Counts.{Rises, next_count}
 use Rattle.lotos_base.specs.Limits.{text_limit}
 use Rattle.lotos_base.specs.Outside.{Texts, Gets}
+pub use Rattle.lotos_base.specs.Outside.{ShelfState}
 use Rattle.lotos_grammar.specs.Gathering.{GotFile}
-
--- what a shelf tells: its texts, where it tells them, and its counts of faults and of calls
-pub record ShelfState : Type 0 where
-  pub texts : Option Texts
-  pub faults : ℕ
-  pub calls : ℕ
-
-abbrev pub shelf_state : Option Texts → ℕ → ℕ → ShelfState
-shelf_state texts faults calls = record { texts = texts; faults = faults; calls = calls }
 
 -- the count of calls after one for each of the files
 abbrev pub calls_after : List GotFile → ℕ → ℕ

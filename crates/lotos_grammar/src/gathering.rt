@@ -6,7 +6,6 @@ ghost use Rattle.syntax_trees.specs.TreeViews.{item_of, placed_names_of};
 ghost use Rattle.lotos_grammar.specs.Gathering.{item as item_waits, mention, nothing_yet};
 ghost use Rattle.lotos_grammar.specs.GatheredView.{gathered_of};
 ghost use Rattle.lotos_grammar.specs.Progress.{GatheringEndsBy, FailsBy, IsDone, IsGathered};
-ghost use Rattle.lotos_grammar.specs.ShelfUse.{shelf_state};
 
 use crate::faults::LibraryFault;
 use crate::gathered::Gathered;
@@ -39,11 +38,9 @@ pub fn gather_types<F: Shelf>(
 ) -> Result<(), LibraryFault>
     requires { gathered_of so_far.old ≡ nothing_yet }
     ensures { MatchResult result
-        (λ _. IsGathered (shelf_state (F.texts shelf.old) (F.faults shelf.old) (F.calls shelf.old))
-        (shelf_state (F.texts shelf.new) (F.faults shelf.new) (F.calls shelf.new))
+        (λ _. IsGathered (F.state shelf.old) (F.state shelf.new)
         (map item_waits (map item_of items.items)) (gathered_of so_far.new))
-        (FailsBy (shelf_state (F.texts shelf.old) (F.faults shelf.old) (F.calls shelf.old))
-        (shelf_state (F.texts shelf.new) (F.faults shelf.new) (F.calls shelf.new))
+        (FailsBy (F.state shelf.old) (F.state shelf.new)
         (map item_waits (map item_of items.items)) (gathered_of so_far.new)) }
 {
     add_items(alloc, items, so_far, shelf)
@@ -58,12 +55,10 @@ fn add_items<F: Shelf>(
     shelf: &mut F,
 ) -> Result<(), LibraryFault>
     ensures read { MatchResult result
-        (λ _. IsDone (shelf_state (F.texts shelf.old) (F.faults shelf.old) (F.calls shelf.old))
-        (shelf_state (F.texts shelf.new) (F.faults shelf.new) (F.calls shelf.new))
+        (λ _. IsDone (F.state shelf.old) (F.state shelf.new)
         (gathered_of so_far.old) (map item_waits (map item_of items.items)) (gathered_of
         so_far.new))
-        (GatheringEndsBy (shelf_state (F.texts shelf.old) (F.faults shelf.old) (F.calls shelf.old))
-        (shelf_state (F.texts shelf.new) (F.faults shelf.new) (F.calls shelf.new))
+        (GatheringEndsBy (F.state shelf.old) (F.state shelf.new)
         (gathered_of so_far.old) (map item_waits (map item_of items.items)) (gathered_of
         so_far.new)) }
     ensures grows { length so_far.old.libraries.items ≤ length so_far.new.libraries.items }
@@ -83,11 +78,9 @@ fn add_item<F: Shelf>(
     shelf: &mut F,
 ) -> Result<(), LibraryFault>
     ensures read { MatchResult result
-        (λ _. IsDone (shelf_state (F.texts shelf.old) (F.faults shelf.old) (F.calls shelf.old))
-        (shelf_state (F.texts shelf.new) (F.faults shelf.new) (F.calls shelf.new))
+        (λ _. IsDone (F.state shelf.old) (F.state shelf.new)
         (gathered_of so_far.old) (item_waits (item_of item) ∷ []) (gathered_of so_far.new))
-        (GatheringEndsBy (shelf_state (F.texts shelf.old) (F.faults shelf.old) (F.calls shelf.old))
-        (shelf_state (F.texts shelf.new) (F.faults shelf.new) (F.calls shelf.new))
+        (GatheringEndsBy (F.state shelf.old) (F.state shelf.new)
         (gathered_of so_far.old) (item_waits (item_of item) ∷ []) (gathered_of so_far.new)) }
     ensures grows { length so_far.old.libraries.items ≤ length so_far.new.libraries.items }
 {
@@ -110,12 +103,10 @@ fn add_libraries<F: Shelf>(
     shelf: &mut F,
 ) -> Result<(), LibraryFault>
     ensures read { MatchResult result
-        (λ _. IsDone (shelf_state (F.texts shelf.old) (F.faults shelf.old) (F.calls shelf.old))
-        (shelf_state (F.texts shelf.new) (F.faults shelf.new) (F.calls shelf.new))
+        (λ _. IsDone (F.state shelf.old) (F.state shelf.new)
         (gathered_of so_far.old) (map mention (placed_names_of names.items)) (gathered_of
         so_far.new))
-        (GatheringEndsBy (shelf_state (F.texts shelf.old) (F.faults shelf.old) (F.calls shelf.old))
-        (shelf_state (F.texts shelf.new) (F.faults shelf.new) (F.calls shelf.new))
+        (GatheringEndsBy (F.state shelf.old) (F.state shelf.new)
         (gathered_of so_far.old) (map mention (placed_names_of names.items)) (gathered_of
         so_far.new)) }
     ensures grows { length so_far.old.libraries.items ≤ length so_far.new.libraries.items }
@@ -136,12 +127,10 @@ fn add_library<F: Shelf>(
     shelf: &mut F,
 ) -> Result<(), LibraryFault>
     ensures read { MatchResult result
-        (λ _. IsDone (shelf_state (F.texts shelf.old) (F.faults shelf.old) (F.calls shelf.old))
-        (shelf_state (F.texts shelf.new) (F.faults shelf.new) (F.calls shelf.new))
+        (λ _. IsDone (F.state shelf.old) (F.state shelf.new)
         (gathered_of so_far.old) (mention (placed_name_of (place, name)) ∷ []) (gathered_of
         so_far.new))
-        (GatheringEndsBy (shelf_state (F.texts shelf.old) (F.faults shelf.old) (F.calls shelf.old))
-        (shelf_state (F.texts shelf.new) (F.faults shelf.new) (F.calls shelf.new))
+        (GatheringEndsBy (F.state shelf.old) (F.state shelf.new)
         (gathered_of so_far.old) (mention (placed_name_of (place, name)) ∷ []) (gathered_of
         so_far.new)) }
     ensures grows { length so_far.old.libraries.items ≤ length so_far.new.libraries.items }

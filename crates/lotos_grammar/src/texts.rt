@@ -6,7 +6,7 @@ ghost use Rattle.lotos_base.specs.WrittenView.{placed_name_of};
 ghost use Rattle.lotos_grammar.specs.GatheredView.{gathered_of};
 ghost use Rattle.lotos_grammar.specs.Gathering.{IsNextLibrary, library_file, with_library};
 ghost use Rattle.lotos_grammar.specs.Progress.{FileFails, IsMentionReplaced, StopsBy, TextFails};
-ghost use Rattle.lotos_grammar.specs.ShelfUse.{GivesFile, shelf_state};
+ghost use Rattle.lotos_grammar.specs.ShelfUse.{GivesFile};
 ghost use Rattle.std.specs.Prelude.{◌≡◌, [], ◌+◌, ◌≤◌, length, map, IfOk, MatchResult};
 ghost use Rattle.std.specs.String.{string_bytes};
 ghost use Rattle.syntax_trees.specs.TreeViews.{item_of};
@@ -37,13 +37,10 @@ pub fn library_items<F: Shelf>(
 ) -> Result<Vec<ItemText>, LibraryFault>
     requires { IsNextLibrary (gathered_of so_far.old).read (spelling name) }
     ensures replaced { MatchResult result
-        (λ items. IsMentionReplaced (shelf_state (F.texts shelf.old) (F.faults shelf.old) (F.calls
-        shelf.old))
-        (shelf_state (F.texts shelf.new) (F.faults shelf.new) (F.calls shelf.new))
+        (λ items. IsMentionReplaced (F.state shelf.old) (F.state shelf.new)
         (gathered_of so_far.old) (placed_name_of (place, name)) (gathered_of so_far.new) (map
         item_of items.items))
-        (StopsBy (shelf_state (F.texts shelf.old) (F.faults shelf.old) (F.calls shelf.old))
-        (shelf_state (F.texts shelf.new) (F.faults shelf.new) (F.calls shelf.new))
+        (StopsBy (F.state shelf.old) (F.state shelf.new)
         (gathered_of so_far.old) (placed_name_of (place, name)) (gathered_of so_far.new)) }
     ensures counted { IfOk result (λ _. length so_far.new.libraries.items ≡ length
         so_far.old.libraries.items + 1) }
@@ -66,12 +63,9 @@ pub fn library_items<F: Shelf>(
 // The text of the library's file.
 fn file_text<F: Shelf>(alloc: Global, name: &Name, shelf: &mut F) -> Result<Vec<u8>, LibraryFault>
     ensures { MatchResult result
-        (λ text. GivesFile (shelf_state (F.texts shelf.old) (F.faults shelf.old) (F.calls
-        shelf.old))
-        (shelf_state (F.texts shelf.new) (F.faults shelf.new) (F.calls shelf.new))
+        (λ text. GivesFile (F.state shelf.old) (F.state shelf.new)
         (library_file (spelling name.now)) text.items)
-        (FileFails (shelf_state (F.texts shelf.old) (F.faults shelf.old) (F.calls shelf.old))
-        (shelf_state (F.texts shelf.new) (F.faults shelf.new) (F.calls shelf.new))
+        (FileFails (F.state shelf.old) (F.state shelf.new)
         (library_file (spelling name.now))) }
 {
     let file = file_name(alloc, name)?;

@@ -1,6 +1,7 @@
 -- What comes of the words that check a certificate of bisimulation, and what a yes means.
 use Rattle.std.proofs.Common.{◌≡◌, List, Option, sym, ◌∙◌, subst}
-use Rattle.line_server.specs.Writing.{Stream, WritesAll}
+use Rattle.lotos_base.specs.Outside.{Stream}
+use Rattle.line_server.specs.Writing.{WritesAll}
 use Rattle.certificate_verbs.specs.HandedOn.{Did, ShelfState, GotFile, Gives, Comes, goes_on, unread, stops, wants_memory, CommandLine}
 use Rattle.certificate_verbs.specs.HandedOn.{Compared, AcceptedCertificatesShowBisimilarity, AcceptedStartsDoTheSame}
 use Rattle.certificate_verbs.specs.Certificates.{bisimilar_printed}

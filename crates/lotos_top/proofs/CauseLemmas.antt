@@ -1,30 +1,32 @@
 -- Each answer of a run comes where its cause stands.
-use Rattle.std.proofs.Common.{◌≡◌, ◌⊎◌, inl, inr, ℕ, ◌<◌, List, [], ◌∷◌, ◌++◌, length, Option, None, Some, refl, sym, ap, subst, ◌∙◌, arith, length-append}
+use Rattle.std.proofs.Common.{◌≡◌, ◌⊎◌, inl, inr, ℕ, ◌+◌, ◌<◌, ◌≤◌, List, [], ◌∷◌, ◌++◌, length, Option, None, Some, IfSome, refl, sym, ap, subst, ◌∙◌, arith, length-append}
 use Rattle.std.proofs.lemmas.Option.{none-some}
 use Rattle.lotos_base.specs.Counts.{Rises, next_count}
-use Rattle.lotos_base.specs.Outside.{Texts}
+use Rattle.lotos_base.specs.Outside.{Texts, Stream, Stands, Fails}
+use Rattle.lotos_base.proofs.Streams.{stands_then, fails_then}
 use Rattle.certificate_verbs.specs.HandedOn.{ShelfState, GotFile, Refused, Asked, Founded, IsAccepted, IsFounded, Did, Comes, goes_on}
 use Rattle.certificate_verbs.specs.HandedOn.{unread, stops, wants_memory, Part, Then, Has, Telling, SessionPoint, history_machine}
 use Rattle.certificate_verbs.specs.HandedOn.{Beginning, CommandLine, Compared, check, session, demonstration, flattening, bisimilarity}
-use Rattle.certificate_verbs.specs.HandedOn.{Induced, induction, shelf_state, Gives, GivesSome, calls_after}
+use Rattle.certificate_verbs.specs.HandedOn.{Induced, induction, Gives, GivesSome, calls_after}
 use Rattle.line_server.specs.Limits.{input_limit}
-use Rattle.line_server.specs.Session.{SessionCame, finished, quit, input_failed, too_long, output_failed, closing_failed, wanted_memory}
+use Rattle.line_server.specs.Session.{SessionCame, finished, quit, input_failed, too_long, output_failed, closing_failed, wanted_memory, FailsToClose, of_failed_input, of_long_input, ReadsPastLimit}
 use Rattle.line_server.specs.Turn.{around, IsReadOfInput}
-use Rattle.line_server.specs.Writing.{Stream, WritesAll}
+use Rattle.line_server.specs.Writing.{WritesAll}
 use Rattle.line_server.specs.declared.ends.SessionEnd.{SessionEnd}
-use Rattle.line_server.proofs.ServedBytes.{rises_from}
+use Rattle.line_server.proofs.ReadBytes.{reads_stand, all_ends, fault_fails, past_stands, past_left, past_raised}
 use Rattle.certificate_verbs.specs.Certificates.{bisimilar_printed}
 use Rattle.certificate_verbs.specs.Finishing.{Print, print, Finish, prints, serves, unread_printed, refusal_printed}
 use Rattle.certificate_verbs.specs.declared.ended.Ended.{Ended}
 use Rattle.certificate_verbs.specs.declared.ended.Ended.TheVariants.{Done, SpecRefused, WordsRefused, FileFault, InputFault, OutputFault, NoMemory, InputTooLong, CertificateRefused}
 use Rattle.certificate_verbs.proofs.ComparedParts.{checks_on, checks_refuses, no_refusal}
 use Rattle.certificate_verbs.proofs.InducedParts.{induces_on, induces_refuses}
-use Rattle.lotos_top.specs.Causes.{GivesWay, IsReadPast, ServesLines, IsDemonstration, IsUnread, IsUnreadPrinted, AnswersHaveCauses}
+use Rattle.lotos_top.specs.Causes.{GivesWay, IsReadPast, TakesPast, CallsEnd, ServesLines, IsDemonstration, IsUnread, IsUnreadPrinted, AnswersHaveCauses}
 use Rattle.lotos_top.specs.Flattening.{flat_printed}
 use Rattle.lotos_top.specs.Opening.{opening_text}
 use Rattle.lotos_top.specs.Parts.{OpensSession}
 use Rattle.lotos_top.specs.Run.{Streams, Writes, whole, in_part, nothing, Prints, ServesSession, in_front, in_want, behind, Stops, FollowsFromWork, Ran, ended_by}
 use Rattle.lotos_top.specs.Work.{work_of}
+use Rattle.lotos_top.proofs.CallLemmas.{Took, took_none, took_some, took_all, took_up_to, took_past, took_brought, brought_counts, not_past, calls_end, kept_stands}
 
 -- ---- A text that is printed
 
@@ -49,21 +51,29 @@ record WroteSo (p : Print) (before after : Stream) (answer : Ended) : Type 0 whe
   pub text : (answer ≡ OutputFault → ⊥) → (answer ≡ NoMemory → ⊥) → WritesAll before.bytes after.bytes p.text
   pub output : answer ≡ OutputFault → (p.status ≡ OutputFault → ⊥) → Rises before.faults after.faults
   pub output_fault : before.faults < after.faults → answer ≡ OutputFault
+  pub calls : Stands before after ⊎ Fails before after
 
 wrote_so : (p : Print) (before after : Stream) (answer : Ended) → Writes p before after answer → WroteSo p before after answer
 wrote_so p before after answer (whole is wrote same) = record {
   is = inl is;
   text = λ _ _. wrote;
   output = λ failed not. absurd (not (sym is ∙ failed));
-  output_fault = λ rose. absurd (omega (arith, same, rose));
+  output_fault = λ rose. absurd (omega (arith, same.faults, rose));
+  calls = inl same;
 }
-wrote_so p before after answer (in_part is wrote rises) =
-    record { is = inr (inl is); text = λ not _. absurd (not is); output = λ failed not. rises; output_fault = λ rose. is }
+wrote_so p before after answer (in_part is wrote fails) = record {
+  is = inr (inl is);
+  text = λ not _. absurd (not is);
+  output = λ failed not. fails.faults;
+  output_fault = λ rose. is;
+  calls = inr fails;
+}
 wrote_so p before after answer (nothing is same) = record {
   is = inr (inr is);
   text = λ _ not. absurd (not is);
   output = λ failed not. absurd (cc (is, failed));
   output_fault = λ rose. absurd (omega (arith, ap (λ (it : Stream). it.faults) same, rose));
+  calls = inl (kept_stands before after same);
 }
 
 or_gives_way : (answer status wanted : Ended) → (answer ≡ status) ⊎ GivesWay answer → status ≡ wanted → (answer ≡ wanted) ⊎ GivesWay answer
@@ -99,6 +109,8 @@ printed_causes line shelf between shelf_after before after answer p kept fits fi
       output = λ is. so.output is fits.output;
       output_fault = so.output_fault;
       long = λ is. by_status answer p.status InputTooLong so.is is (λ e. cc e) (λ e. cc e) (λ e. absurd (fits.long e));
+      long_read = λ past. absurd (not_past before.input after.input (took_none before.input after.input done.input_kept) past);
+      calls = calls_end before after input_limit (omega arith) (took_none before.input after.input done.input_kept) so.calls;
       texts = inl (ap (λ (it : ShelfState). it.texts) done.shelf_kept ∙ kept);
     }
   where
@@ -174,93 +186,135 @@ record SessionFacts (before after : Streams) (answer : Ended) : Type 0 where
   pub input_fault : before.input.faults < after.input.faults → (answer ≡ InputFault) ⊎ (answer ≡ OutputFault)
   pub output : answer ≡ OutputFault → Rises before.output.faults after.output.faults
   pub output_fault : before.output.faults < after.output.faults → answer ≡ OutputFault
-  pub long : answer ≡ InputTooLong → IsReadPast before.input.bytes after.input.bytes
+  pub long : answer ≡ InputTooLong → IsReadPast before.input after.input
+  pub long_read : TakesPast before.input after.input → (answer ≡ InputTooLong) ⊎ (answer ≡ OutputFault)
+  pub calls : CallsEnd before after
 
 steady_facts : (before after : Streams) (answer : Ended) → (answer ≡ Done) ⊎ (answer ≡ NoMemory)
-    → after.input.faults ≡ before.input.faults → after.output.faults ≡ before.output.faults → SessionFacts before after answer
-steady_facts before after answer is input output = record {
+    → after.input.faults ≡ before.input.faults → Took before.input after.input input_limit → Stands before.output after.output
+    → SessionFacts before after answer
+steady_facts before after answer is input took output = record {
   words = λ e. neither WordsRefused is e (λ h. cc h) (λ h. cc h);
   files = λ e. neither FileFault is e (λ h. cc h) (λ h. cc h);
   input = λ e. absurd (neither InputFault is e (λ h. cc h) (λ h. cc h));
   input_fault = λ rose. absurd (omega (arith, input, rose));
   output = λ e. absurd (neither OutputFault is e (λ h. cc h) (λ h. cc h));
-  output_fault = λ rose. absurd (omega (arith, output, rose));
+  output_fault = λ rose. absurd (omega (arith, output.faults, rose));
   long = λ e. absurd (neither InputTooLong is e (λ h. cc h) (λ h. cc h));
+  long_read = λ past. absurd (not_past before.input after.input took past);
+  calls = calls_end before after input_limit (omega arith) took (inl output);
 }
   where
     neither : (other : Ended) → (answer ≡ Done) ⊎ (answer ≡ NoMemory) → answer ≡ other → (other ≡ Done → ⊥) → (other ≡ NoMemory → ⊥) → ⊥
     neither other (inl a) e no_done no_memory = no_done (sym e ∙ a)
     neither other (inr b) e no_done no_memory = no_memory (sym e ∙ b)
 
-output_facts : (before after : Streams) (answer : Ended) → answer ≡ OutputFault → Rises before.output.faults after.output.faults
-    → SessionFacts before after answer
-output_facts before after answer is rises = record {
+want_facts : (before after : Streams) (answer : Ended) → answer ≡ NoMemory → after ≡ before → SessionFacts before after answer
+want_facts before after answer is same =
+    steady_facts before after answer (inr is) (ap (λ (it : Streams). it.input.faults) same)
+    (took_none before.input after.input (ap (λ (it : Streams). it.input) same))
+    (kept_stands before.output after.output (ap (λ (it : Streams). it.output) same))
+
+output_facts : (before after : Streams) (answer : Ended) (most : ℕ) → most ≤ input_limit + 1 → answer ≡ OutputFault
+    → Took before.input after.input most → Fails before.output after.output → SessionFacts before after answer
+output_facts before after answer most within is took fails = record {
   words = λ e. cc (is, e);
   files = λ e. cc (is, e);
   input = λ e. absurd (cc (is, e));
   input_fault = λ rose. inr is;
-  output = λ e. rises;
+  output = λ e. fails.faults;
   output_fault = λ rose. is;
   long = λ e. absurd (cc (is, e));
+  long_read = λ past. inr is;
+  calls = calls_end before after most within took (inr fails);
 }
 
 input_facts : (before after : Streams) (answer : Ended) → answer ≡ InputFault → Rises before.input.faults after.input.faults
-    → after.output.faults ≡ before.output.faults → SessionFacts before after answer
-input_facts before after answer is rises output = record {
+    → Took before.input after.input input_limit → Stands before.output after.output → SessionFacts before after answer
+input_facts before after answer is rises took output = record {
   words = λ e. cc (is, e);
   files = λ e. cc (is, e);
   input = λ e. rises;
   input_fault = λ rose. inl is;
   output = λ e. absurd (cc (is, e));
-  output_fault = λ rose. absurd (omega (arith, output, rose));
+  output_fault = λ rose. absurd (omega (arith, output.faults, rose));
   long = λ e. absurd (cc (is, e));
+  long_read = λ past. absurd (not_past before.input after.input took past);
+  calls = calls_end before after input_limit (omega arith) took (inl output);
 }
 
-past : (left left_after : Option (List ℕ)) (seen : List ℕ) (byte : ℕ) → length seen ≡ input_limit
-    → IsReadOfInput left (seen ++ byte ∷ []) left_after → IsReadPast left left_after
-past None left_after seen byte whole_ read = tt
-past (Some bytes) left_after seen byte whole_ read =
-    (seen ++ byte ∷ [], read.0, omega (arith, length-append seen (byte ∷ []), whole_), read.1, read.2)
+past_told : (left left_after : Option (List ℕ)) (seen : List ℕ) (byte : ℕ) → IsReadOfInput left (seen ++ byte ∷ []) left_after
+    → IfSome left (λ bytes. (read : List ℕ) × (rest : List ℕ)
+    × (length read ≡ length seen + 1) × (bytes ≡ read ++ rest) × (left_after ≡ Some rest))
+past_told None left_after seen byte read = tt
+past_told (Some bytes) left_after seen byte read =
+    (seen ++ byte ∷ [], read.0, length-append seen (byte ∷ []), read.1, read.2)
 
-long_facts : (before after : Streams) (answer : Ended) → answer ≡ InputTooLong → IsReadPast before.input.bytes after.input.bytes
-    → after.input.faults ≡ before.input.faults → after.output.faults ≡ before.output.faults → SessionFacts before after answer
-long_facts before after answer is read input output = record {
+read_past : (before : Stream) (seen : List ℕ) (after : Stream) → ReadsPastLimit before seen after → IsReadPast before after
+read_past before seen after past = record {
+  count = length seen + 1;
+  whole = ap (λ (n : ℕ). n + 1) past.whole;
+  moved = past_raised before seen after past;
+  told = past_told before.bytes after.bytes seen past.byte (past_left before seen after past);
+}
+
+long_facts : (before after : Streams) (answer : Ended) (seen : List ℕ) → answer ≡ InputTooLong
+    → ReadsPastLimit before.input seen after.input → Stands before.output after.output → SessionFacts before after answer
+long_facts before after answer seen is past output = record {
   words = λ e. cc (is, e);
   files = λ e. cc (is, e);
   input = λ e. absurd (cc (is, e));
-  input_fault = λ rose. absurd (omega (arith, input, rose));
+  input_fault = λ rose. absurd (omega (arith, (past_stands before.input seen after.input past).faults, rose));
   output = λ e. absurd (cc (is, e));
-  output_fault = λ rose. absurd (omega (arith, output, rose));
-  long = λ e. read;
+  output_fault = λ rose. absurd (omega (arith, output.faults, rose));
+  long = λ e. read_past before.input seen after.input past;
+  long_read = λ _. inl is;
+  calls = calls_end before after (input_limit + 1) (omega arith) (took_past before.input seen after.input past) (inl output);
 }
 
+-- the output failed at the closing line
+closing_facts : (before after : Streams) (answer : Ended) (seen closing : List ℕ) → length seen ≤ input_limit → answer ≡ OutputFault
+    → FailsToClose before.input seen after.input closing → Fails before.output after.output → SessionFacts before after answer
+closing_facts before after answer seen closing within is (of_failed_input up_to) fails =
+    output_facts before after answer input_limit (omega arith) is (took_up_to before.input seen after.input within up_to) fails
+closing_facts before after answer seen closing within is (of_long_input past) fails =
+    output_facts before after answer (input_limit + 1) (omega arith) is (took_past before.input seen after.input past) fails
+
 came_facts : (start last : SessionPoint) (before after : Streams) (between : Stream) (seen : List ℕ) (end : SessionEnd) (answer : Ended)
-    → between.faults ≡ before.output.faults
+    → length seen ≤ input_limit → Stands before.output between
     → SessionCame history_machine (around start before.input between) (around last after.input after.output) seen end
     → answer ≡ ended_by end → SessionFacts before after answer
-came_facts start last before after between seen end answer same (finished text quits read none answered wrote stand) is =
-    steady_facts before after answer (inl is) stand.input (stand.output ∙ same)
-came_facts start last before after between seen end answer same (quit text read answered wrote stand) is =
-    steady_facts before after answer (inl is) stand.input (stand.output ∙ same)
-came_facts start last before after between seen end answer same (input_failed text read answered wrote rises output) is =
-    input_facts before after answer is rises (output ∙ same)
-came_facts start last before after between seen end answer same (too_long text byte whole_ read answered wrote stand) is =
-    long_facts before after answer is (past before.input.bytes after.input.bytes seen byte whole_ read) stand.input (stand.output ∙ same)
-came_facts start last before after between seen end answer same (output_failed has) is =
-    output_facts before after answer is (rises_from before.output.faults between.faults after.output.faults same
-    (rises_from between.faults has.between.output.faults after.output.faults has.served.counts has.stops.1))
-came_facts start last before after between seen end answer same (closing_failed text closing fails answered wrote rises) is =
-    output_facts before after answer is (rises_from before.output.faults between.faults after.output.faults same rises)
-came_facts start last before after between seen end answer same (wanted_memory has) is =
-    steady_facts before after answer (inr is) has.counts (has.stops.1 ∙ (has.served.counts ∙ same))
+came_facts start last before after between seen end answer within same (finished text quits read answered wrote stand) is =
+    steady_facts before after answer (inl is) (all_ends before.input seen after.input read).faults
+    (took_all before.input seen after.input within read) (stands_then before.output between after.output same stand)
+came_facts start last before after between seen end answer within same (quit text read answered wrote stand) is =
+    steady_facts before after answer (inl is) (reads_stand before.input seen after.input read).faults
+    (took_some before.input seen after.input within read) (stands_then before.output between after.output same stand)
+came_facts start last before after between seen end answer within same (input_failed text read answered wrote stand) is =
+    input_facts before after answer is (fault_fails before.input seen after.input read).faults
+    (took_up_to before.input seen after.input within read) (stands_then before.output between after.output same stand)
+came_facts start last before after between seen end answer within same (too_long text read answered wrote stand) is =
+    long_facts before after answer seen is read (stands_then before.output between after.output same stand)
+came_facts start last before after between seen end answer within same (output_failed has) is =
+    output_facts before after answer input_limit (omega arith) is
+    (took_brought before.input after.input has.earlier seen has.lines within has.brings)
+    (fails_then before.output between after.output same
+    (fails_then between has.between.output after.output has.served.stands has.stops.1))
+came_facts start last before after between seen end answer within same (closing_failed text closing to_close answered wrote fails) is =
+    closing_facts before after answer seen closing within is to_close (fails_then before.output between after.output same fails)
+came_facts start last before after between seen end answer within same (wanted_memory has) is =
+    steady_facts before after answer (inr is) (brought_counts before.input after.input has.earlier seen has.lines has.brings)
+    (took_brought before.input after.input has.earlier seen has.lines within has.brings)
+    (stands_then before.output between after.output same
+    (stands_then between has.between.output after.output has.served.stands has.stops.1))
 
 serves_facts : (begun : Beginning) (shelf shelf_after : ShelfState) (before after : Streams) (answer : Ended)
     → ServesSession begun shelf shelf_after before after answer → SessionFacts before after answer
-serves_facts begun shelf shelf_after before after answer (in_front kept input is wrote rises) = output_facts before after answer is rises
-serves_facts begun shelf shelf_after before after answer (in_want kept same is) =
-    steady_facts before after answer (inr is) (ap (λ (it : Streams). it.input.faults) same) (ap (λ (it : Streams). it.output.faults) same)
+serves_facts begun shelf shelf_after before after answer (in_front kept input is wrote fails) =
+    output_facts before after answer input_limit (omega arith) is (took_none before.input after.input input) fails
+serves_facts begun shelf shelf_after before after answer (in_want kept same is) = want_facts before after answer is same
 serves_facts begun shelf shelf_after before after answer (behind between last end wrote counts texts served is) =
-    came_facts _ _ before after between served.seen end answer counts served.came is
+    came_facts _ _ before after between served.seen end answer served.within counts served.came is
 
 served_causes : (asked : Asked) (shelf between shelf_after : ShelfState) (before after : Streams) (answer : Ended) (begun : Beginning)
     → ServesSession begun between shelf_after before after answer
@@ -277,6 +331,8 @@ served_causes asked shelf between shelf_after before after answer begun serves_ 
       output = facts.output;
       output_fault = facts.output_fault;
       long = facts.long;
+      long_read = facts.long_read;
+      calls = facts.calls;
       texts = inr tt;
     }
 
@@ -286,8 +342,7 @@ stopped_causes : (line : Option CommandLine) (shelf between shelf_after : ShelfS
     → between.texts ≡ shelf.texts → between.faults ≡ shelf.faults → (IsDemonstration line → between ≡ shelf)
     → Stops between shelf_after before after answer → AnswersHaveCauses line shelf shelf_after before after answer
 stopped_causes line shelf between shelf_after before after answer texts faults uncalled stopped =
-    let facts = steady_facts before after answer (inr stopped.is) (ap (λ (it : Streams). it.input.faults) stopped.kept)
-    (ap (λ (it : Streams). it.output.faults) stopped.kept) in record {
+    let facts = want_facts before after answer stopped.is stopped.kept in record {
       words = λ e. absurd (facts.words e);
       no_line = λ none. inr (inr stopped.is);
       files = λ e. absurd (facts.files e);
@@ -299,15 +354,20 @@ stopped_causes line shelf between shelf_after before after answer texts faults u
       output = facts.output;
       output_fault = facts.output_fault;
       long = facts.long;
+      long_read = facts.long_read;
+      calls = facts.calls;
       texts = inl (ap (λ (it : ShelfState). it.texts) stopped.shelf_kept ∙ texts);
     }
 
 -- ---- No file
 
+abbrev telling : Option Texts → ℕ → ℕ → ShelfState
+telling texts faults calls = record { texts = texts; faults = faults; calls = calls }
+
 same_shelf : (a b : ShelfState) → b.texts ≡ a.texts → b.faults ≡ a.faults → b.calls ≡ a.calls → b ≡ a
 same_shelf a b texts faults calls =
-    ap (λ (it : Option Texts). shelf_state it b.faults b.calls) texts
-    ∙ (ap (λ (it : ℕ). shelf_state a.texts it b.calls) faults ∙ ap (λ (it : ℕ). shelf_state a.texts a.faults it) calls)
+    ap (λ (it : Option Texts). telling it b.faults b.calls) texts
+    ∙ (ap (λ (it : ℕ). telling a.texts it b.calls) faults ∙ ap (λ (it : ℕ). telling a.texts a.faults it) calls)
 
 calls_none : (files : List GotFile) (calls : ℕ) → files ≡ [] → calls_after files calls ≡ calls
 calls_none files calls none = ap (λ (it : List GotFile). calls_after it calls) none

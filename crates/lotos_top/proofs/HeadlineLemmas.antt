@@ -2,7 +2,8 @@
 use Rattle.std.proofs.Common.{◌≡◌, ◌⊎◌, inl, inr, ℕ, ◌≤◌, Bool, true, List, [], ◌∷◌, ◌++◌, length, Option, Some, IfSome, refl, sym, ap, subst, ◌∙◌, append_assoc, arith, length-append}
 use Rattle.std.proofs.lemmas.List.{append-nil}
 use Rattle.lotos_base.specs.Counts.{Rises}
-use Rattle.lotos_base.specs.Outside.{Texts}
+use Rattle.lotos_base.specs.Outside.{Texts, Stream, Stands}
+use Rattle.lotos_base.proofs.Streams.{fails_then}
 use Rattle.certificate_verbs.specs.HandedOn.{ShelfState, Refused, Asked, Acceptance, IsAccepted, ComesOver, Did, Comes, goes_on, unread}
 use Rattle.certificate_verbs.specs.HandedOn.{stops, wants_memory, AreAnswered, Standing, SessionPoint, point, history_machine, Beginning}
 use Rattle.certificate_verbs.specs.HandedOn.{standing_at, LinesLeadOn, ServedLinesAreAnswered, CommandLine, session}
@@ -12,8 +13,9 @@ use Rattle.line_server.specs.Cutting.{complete, unfinished, last_line, lines_in}
 use Rattle.line_server.specs.Limits.{input_limit}
 use Rattle.line_server.specs.Session.{SessionCame, finished, quit, input_failed, too_long, output_failed, closing_failed, wanted_memory}
 use Rattle.line_server.specs.Turn.{around, IsReadOfInput}
-use Rattle.line_server.specs.Writing.{Stream, WritesAll}
+use Rattle.line_server.specs.Writing.{WritesAll}
 use Rattle.line_server.proofs.Cuts.{complete-append}
+use Rattle.line_server.proofs.ReadBytes.{reads_left, all_left, all_gone, past_left, fault_fails}
 use Rattle.line_server.proofs.AnsweredLines.{answered_still}
 use Rattle.line_server.specs.declared.ends.SessionEnd.{SessionEnd}
 use Rattle.certificate_verbs.specs.Finishing.{Print, Finish}
@@ -98,49 +100,53 @@ module _ (answered : ServedLinesAreAnswered) (leads : LinesLeadOn) (acceptance :
   }
 
   came_so : (between : Stream) (last : Standing) (seen : List ℕ) (end : SessionEnd) (answer : Ended)
-      → WritesAll before.output.bytes between.bytes (opening_text begun) → between.faults ≡ before.output.faults
+      → WritesAll before.output.bytes between.bytes (opening_text begun) → Stands before.output between
       → last.texts ≡ shelf_after.texts
       → SessionCame history_machine (around start before.input between)
       (around (point last shelf_after.faults shelf_after.calls) after.input after.output) seen end
       → answer ≡ ended_by end → (answer ≡ NoMemory) ⊎ Simulates acceptance texts bytes written shelf_after after answer
-  came_so between last seen end answer opening counts kept (finished text quits read none lines rest stand) is =
+  came_so between last seen end answer opening counts kept (finished text quits read lines rest stand) is =
       inr (simulated between last (lines_in seen) text quits answer
-      (ap (λ (it : List ℕ). lines_in it) (sym (read_whole before.input.bytes after.input.bytes bytes seen left read none))) kept lines
+      (ap (λ (it : List ℕ). lines_in it) (sym (read_whole before.input.bytes after.input.bytes bytes seen left (all_left
+      before.input seen after.input read)
+      (all_gone before.input seen after.input read)))) kept lines
       opening
       rest is)
   came_so between last seen end answer opening counts kept (quit text read lines rest stand) is =
-      let there = read_of before.input.bytes after.input.bytes bytes seen left read in
+      let there = read_of before.input.bytes after.input.bytes bytes seen left (reads_left before.input seen after.input read) in
       inr (simulated between last
       (complete [] seen ++ (complete (unfinished [] seen) there.0 ++ last_line (unfinished [] (seen ++ there.0)))) text true answer
       (sym (lines_behind seen there.0) ∙ ap (λ (it : List ℕ). lines_in it) (sym there.1)) kept
       (answered_still history_machine start (point last shelf_after.faults shelf_after.calls) (complete [] seen)
       (complete (unfinished [] seen) there.0 ++ last_line (unfinished [] (seen ++ there.0))) text true lines refl)
       opening rest is)
-  came_so between last seen end answer opening counts kept (input_failed text read lines rest rises output) is =
-      absurd (no_rise before.input.faults after.input.faults steady.input_stands rises)
-  came_so between last seen end answer opening counts kept (too_long text byte whole read lines rest stand) is =
-      let there = read_of before.input.bytes after.input.bytes bytes (seen ++ byte ∷ []) left read in
+  came_so between last seen end answer opening counts kept (input_failed text read lines rest output) is =
+      absurd (no_rise before.input.faults after.input.faults steady.input_stands (fault_fails before.input seen after.input read).faults)
+  came_so between last seen end answer opening counts kept (too_long text read lines rest stand) is =
+      let there = read_of before.input.bytes after.input.bytes bytes (seen ++ read.byte ∷ []) left
+      (past_left before.input seen after.input read) in
       absurd (omega (
         arith,
         ap length there.1,
-        length-append (seen ++ byte ∷ []) there.0,
-        length-append seen (byte ∷ []),
-        whole,
+        length-append (seen ++ read.byte ∷ []) there.0,
+        length-append seen (read.byte ∷ []),
+        read.whole,
         within,
       ))
   came_so between last seen end answer opening counts kept (output_failed has) is =
       absurd (no_rise before.output.faults after.output.faults steady.output_stands
-      (subst (λ (it : ℕ). Rises it after.output.faults) (has.served.counts ∙ counts) has.stops.1))
+      (fails_then before.output between after.output counts
+      (fails_then between has.between.output after.output has.served.stands has.stops.1)).faults)
   came_so between last seen end answer opening counts kept (closing_failed text closing fails lines rest rises) is =
       absurd (no_rise before.output.faults after.output.faults steady.output_stands
-      (subst (λ (it : ℕ). Rises it after.output.faults) counts rises))
+      (fails_then before.output between after.output counts rises).faults)
   came_so between last seen end answer opening counts kept (wanted_memory has) is = inl is
 
   pub simulates : (answer : Ended) → ServesSession begun shelf shelf_after before after answer
       → (answer ≡ NoMemory) ⊎ Simulates acceptance texts bytes written shelf_after after answer
   unfolding start
   simulates answer (in_front kept input is beginning rises) =
-      absurd (no_rise before.output.faults after.output.faults steady.output_stands rises)
+      absurd (no_rise before.output.faults after.output.faults steady.output_stands rises.faults)
   simulates answer (in_want kept same is) = inl is
   simulates answer (behind between last end opening counts kept session_ is) =
       came_so between last session_.seen end answer opening counts kept session_.came is

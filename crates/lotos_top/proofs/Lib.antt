@@ -1,4 +1,5 @@
 mod BeginLemmas
+mod CallLemmas
 mod CauseLemmas
 mod FlatteningLemmas
 mod BisimilarityLemmas

@@ -1,9 +1,9 @@
 -- What is ready by what came of the acceptance.
 use Rattle.std.proofs.Common.{◌≡◌, inl, inr, ℕ, zero, List, [], ◌∷◌, map, All, Option, None, Some, IfSome, IsSomeAnd, Result, Ok, Err, IfOk, MatchResult, codes, refl, sym, ap, ◌∙◌, subst, arith}
 use Rattle.std.proofs.lemmas.Option.{none-some}
-use Rattle.lotos_base.specs.MemShelf.{File, text_under, texts_of, faults_of, calls_of}
+use Rattle.lotos_base.specs.MemShelf.{File, text_under, texts_of, shelf_state}
 use Rattle.lotos_base.specs.Outside.{Texts}
-use Rattle.certificate_verbs.specs.HandedOn.{ShelfState, shelf_state, GotFile, IsFileOf, Refused, Acceptance, Asked}
+use Rattle.certificate_verbs.specs.HandedOn.{ShelfState, GotFile, IsFileOf, Refused, Acceptance, Asked}
 use Rattle.certificate_verbs.specs.HandedOn.{AcceptsText, IsAccepted, goes_on, unread, stops, wants_memory, Part, Has, Did, Failed}
 use Rattle.certificate_verbs.specs.HandedOn.{NotAccepted, File as Lacking, Spec, NoMemory, IsSummary, demo_text, past_of, progress_of}
 use Rattle.certificate_verbs.specs.HandedOn.{Course, Past, Beginning, CommandLine, check, session, demonstration, usage_text}
@@ -105,7 +105,7 @@ pub record HasNoFiles (shelf : ShelfState) : Type 0 where
 
 -- such is one in memory that has no files
 pub no_files : (shelf : MemShelf) (files : List File) → texts_of shelf ≡ text_under files → files ≡ []
-    → HasNoFiles (shelf_state (Some (texts_of shelf)) (faults_of shelf) (calls_of shelf))
+    → HasNoFiles (shelf_state shelf)
 no_files shelf files texts none = record {
   texts = texts_of shelf;
   told = refl;

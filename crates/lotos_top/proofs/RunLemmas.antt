@@ -3,13 +3,14 @@ use Rattle.std.proofs.Common.{◌≡◌, ◌⊎◌, inl, inr, ℕ, ◌<◌, ◌�
 use Rattle.std.proofs.lemmas.Bool.{cases_lt}
 use Rattle.std.proofs.lemmas.Option.{same_Some, none-some}
 use Rattle.lotos_base.specs.Counts.{Rises}
+use Rattle.lotos_base.specs.Outside.{Stream, Stands, Fails}
 use Rattle.certificate_verbs.specs.HandedOn.{ShelfState, Did, Comes, goes_on, unread, stops, wants_memory, Part, moment_of}
 use Rattle.certificate_verbs.specs.HandedOn.{IsBeforeOrBehind, SessionPoint, LineLeaves, history_machine, Beginning, CommandLine}
 use Rattle.line_server.specs.Answered.{FailedAt, WantedAt, LeftAt}
 use Rattle.line_server.specs.Session.{HasStopped, SessionCame, finished, quit, input_failed, too_long, output_failed, closing_failed, wanted_memory}
 use Rattle.line_server.specs.Request.{request_of}
 use Rattle.line_server.specs.Turn.{Surroundings}
-use Rattle.line_server.specs.Writing.{Stream, WritesAll, WritesBeginning}
+use Rattle.line_server.specs.Writing.{WritesAll, WritesBeginning}
 use Rattle.certificate_verbs.proofs.HandedOn.{counts_rise, count_rises}
 use Rattle.line_server.specs.declared.ends.SessionEnd.{SessionEnd}
 use Rattle.line_server.specs.declared.ends.Stop.{Stop}
@@ -83,12 +84,12 @@ ran_nothing line shelf between now came =
 
 -- a text was written
 pub wrote_whole : (p : Print) (before after : Stream) (text : List ℕ) → text ≡ p.text → WritesAll before.bytes after.bytes text
-    → after.faults ≡ before.faults → Writes p before after p.status
+    → Stands before after → Writes p before after p.status
 wrote_whole p before after text same wrote counts =
     whole refl (subst (λ (it : List ℕ). WritesAll before.bytes after.bytes it) same wrote) counts
 
 pub wrote_part : (p : Print) (before after : Stream) (text : List ℕ) → text ≡ p.text → WritesBeginning before.bytes after.bytes text
-    → Rises before.faults after.faults → Writes p before after OutputFault
+    → Fails before after → Writes p before after OutputFault
 wrote_part p before after text same wrote rises =
     in_part refl (subst (λ (it : List ℕ). WritesBeginning before.bytes after.bytes it) same wrote) rises
 
@@ -152,12 +153,12 @@ stopped_rise before after seen WantsMemory has =
 
 came_rises : (before after : Surroundings SessionPoint) (seen : List ℕ) (end : SessionEnd)
     → SessionCame history_machine before after seen end → before.state.faults ≤ after.state.faults
-came_rises before after seen end (finished text quits read none answered wrote stand) =
+came_rises before after seen end (finished text quits read answered wrote stand) =
     counts_rise before.state after.state _ text quits answered
 came_rises before after seen end (quit text read answered wrote stand) = counts_rise before.state after.state _ text _ answered
-came_rises before after seen end (input_failed text read answered wrote rises output) =
+came_rises before after seen end (input_failed text read answered wrote output) =
     counts_rise before.state after.state _ text _ answered
-came_rises before after seen end (too_long text byte whole_ read answered wrote stand) =
+came_rises before after seen end (too_long text read answered wrote stand) =
     counts_rise before.state after.state _ text _ answered
 came_rises before after seen end (output_failed has) = stopped_rise before after seen _ has
 came_rises before after seen end (closing_failed text closing fails answered wrote rises) =

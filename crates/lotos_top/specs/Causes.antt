@@ -1,7 +1,8 @@
 -- Each answer of a run comes where its cause stands, and where a cause stands its answer comes. Want of memory alone may come at any
 -- time.
-use Rattle.std.specs.Prelude.{◌≡◌, ◌≢◌, ◌⊎◌, ℕ, ◌+◌, ◌<◌, List, ◌++◌, length, Option, None, Some, IfSome}
-use Rattle.lotos_base.specs.Counts.{Rises}
+use Rattle.std.specs.Prelude.{◌≡◌, ◌≢◌, ◌⊎◌, ℕ, ◌+◌, ◌<◌, ◌≤◌, List, ◌++◌, length, Option, None, Some, IfSome}
+use Rattle.lotos_base.specs.Counts.{Rises, raised_count}
+use Rattle.lotos_base.specs.Outside.{Stream, Stands, FindsEnd, Fails}
 use Rattle.certificate_verbs.specs.HandedOn.{ShelfState, Did, unread, CommandLine, session, demonstration, unread_text}
 use Rattle.line_server.specs.Limits.{input_limit}
 use Rattle.certificate_verbs.specs.declared.ended.Ended.{Ended}
@@ -14,11 +15,27 @@ use Rattle.lotos_top.specs.Work.{work_of}
 abbrev pub GivesWay : Ended → Type 0
 GivesWay answer = (answer ≡ OutputFault) ⊎ (answer ≡ NoMemory)
 
--- byte 16,777,217 of the input was read, where it tells its bytes
-abbrev pub IsReadPast : Option (List ℕ) → Option (List ℕ) → Type 0
-IsReadPast before after =
-    IfSome before (λ bytes. (read : List ℕ) × (rest : List ℕ)
-    × (length read ≡ input_limit + 1) × (bytes ≡ read ++ rest) × (after ≡ Some rest))
+-- Byte 16,777,217 of the input was read: so many bytes were taken of it, and where it tells its bytes they are the first ones.
+pub record IsReadPast (before after : Stream) : Type 0 where
+  pub count : ℕ
+  pub whole : count ≡ input_limit + 1
+  pub moved : after.moved ≡ raised_count before.moved count
+  pub told :
+      IfSome before.bytes (λ bytes. (read : List ℕ) × (rest : List ℕ)
+      × (length read ≡ count) × (bytes ≡ read ++ rest) × (after.bytes ≡ Some rest))
+
+-- more than 16,777,216 bytes were taken of the input
+abbrev pub TakesPast : Stream → Stream → Type 0
+TakesPast before after = (count : ℕ) × (input_limit < count) × (before.moved + count ≤ after.moved)
+
+-- How input and output were called. The input is not called again after a call that gave no byte, since it failed or nothing was
+-- left, and the output not after one that failed. Of the input 16,777,217 bytes at most are taken, whether it tells them or not.
+pub record CallsEnd (before after : Streams) : Type 0 where
+  pub input : Stands before.input after.input ⊎ FindsEnd before.input after.input ⊎ Fails before.input after.input
+  pub output : Stands before.output after.output ⊎ Fails before.output after.output
+  pub taken : ℕ
+  pub within : taken ≤ input_limit + 1
+  pub bytes : after.input.moved ≤ before.input.moved + taken
 
 -- a line of words that serves a session, and one of a demonstration
 abbrev pub ServesLines : Option CommandLine → Type 0
@@ -61,6 +78,9 @@ pub record AnswersHaveCauses (line : Option CommandLine) (shelf shelf_after : Sh
   pub output : answer ≡ OutputFault → Rises before.output.faults after.output.faults
   pub output_fault : before.output.faults < after.output.faults → answer ≡ OutputFault
   -- byte 16,777,217 of the session was read
-  pub long : answer ≡ InputTooLong → IsReadPast before.input.bytes after.input.bytes
+  pub long : answer ≡ InputTooLong → IsReadPast before.input after.input
+  pub long_read : TakesPast before.input after.input → (answer ≡ InputTooLong) ⊎ (answer ≡ OutputFault)
+  -- input and output are not called on behind their ends
+  pub calls : CallsEnd before after
   -- no text of the shelf changes but by lines of a session
   pub texts : (shelf_after.texts ≡ shelf.texts) ⊎ ServesLines line

@@ -1,11 +1,11 @@
 -- A whole run: what came of its work, and what it did then.
 use Rattle.std.specs.Prelude.{◌≡◌, Option}
-use Rattle.lotos_base.specs.Counts.{Rises}
+use Rattle.lotos_base.specs.Outside.{Stream, Stands, Fails}
 use Rattle.certificate_verbs.specs.HandedOn.{ShelfState, Did, Comes, goes_on, unread, stops, wants_memory, Standing, point, history_machine}
 use Rattle.certificate_verbs.specs.HandedOn.{Beginning, standing_at, CommandLine}
 use Rattle.line_server.specs.Session.{IsSessionServed}
 use Rattle.line_server.specs.Turn.{around}
-use Rattle.line_server.specs.Writing.{Stream, WritesAll, WritesBeginning}
+use Rattle.line_server.specs.Writing.{WritesAll, WritesBeginning}
 use Rattle.line_server.specs.declared.ends.SessionEnd.{SessionEnd}
 use Rattle.line_server.specs.declared.ends.SessionEnd.TheVariants as end
 use Rattle.certificate_verbs.specs.Finishing.{Print, Finish, prints, serves, unread_printed}
@@ -33,10 +33,9 @@ ended_by end.NoMemory = NoMemory
 -- A text is written: the whole of it, and the run ends with its status; or the output failed at one of its bytes; or memory was
 -- wanted before anything was written.
 pub data Writes (p : Print) (before after : Stream) (answer : Ended) : Type 0 where
-  whole : answer ≡ p.status → WritesAll before.bytes after.bytes p.text → after.faults ≡ before.faults → Writes p before after answer
+  whole : answer ≡ p.status → WritesAll before.bytes after.bytes p.text → Stands before after → Writes p before after answer
   in_part :
-      answer ≡ OutputFault → WritesBeginning before.bytes after.bytes p.text → Rises before.faults after.faults
-      → Writes p before after answer
+      answer ≡ OutputFault → WritesBeginning before.bytes after.bytes p.text → Fails before after → Writes p before after answer
   nothing : answer ≡ NoMemory → after ≡ before → Writes p before after answer
 
 -- A text is printed and nothing else is done: the input is not read, and the shelf is not called.
@@ -51,12 +50,12 @@ pub data ServesSession (begun : Beginning) (shelf shelf_after : ShelfState) (bef
   in_front :
       shelf_after ≡ shelf → after.input ≡ before.input → answer ≡ OutputFault
       → WritesBeginning before.output.bytes after.output.bytes (opening_text begun)
-      → Rises before.output.faults after.output.faults
+      → Fails before.output after.output
       → ServesSession begun shelf shelf_after before after answer
   in_want : shelf_after ≡ shelf → after ≡ before → answer ≡ NoMemory → ServesSession begun shelf shelf_after before after answer
   behind :
       (between : Stream) (last : Standing) (end : SessionEnd)
-      → WritesAll before.output.bytes between.bytes (opening_text begun) → between.faults ≡ before.output.faults
+      → WritesAll before.output.bytes between.bytes (opening_text begun) → Stands before.output between
       → last.texts ≡ shelf_after.texts
       → IsSessionServed history_machine
       (around (point (standing_at begun shelf.texts) shelf.faults shelf.calls) before.input between)

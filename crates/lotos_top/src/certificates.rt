@@ -5,7 +5,6 @@ ghost use Rattle.certificate_verbs.specs.HandedOn.{
   compared_files as names_compared,
   induced as names_induced,
   induction,
-  shelf_state,
 };
 ghost use Rattle.lotos_top.specs.Prepared.{CameTo, IsReady};
 ghost use Rattle.std.specs.Prelude.{MatchResult, Some};
@@ -25,11 +24,9 @@ pub fn compared<F: Shelf>(
 ) -> Result<Ready, NoMemory>
     ensures { MatchResult result
         (IsReady (Some (bisimilarity (names_compared spec.now other.now pairs.now)))
-        (shelf_state (F.texts shelf.old) (F.faults shelf.old) (F.calls shelf.old))
-        (shelf_state (F.texts shelf.new) (F.faults shelf.new) (F.calls shelf.new)))
+        (F.state shelf.old) (F.state shelf.new))
         (λ _. CameTo (Some (bisimilarity (names_compared spec.now other.now pairs.now)))
-        (shelf_state (F.texts shelf.old) (F.faults shelf.old) (F.calls shelf.old))
-        (shelf_state (F.texts shelf.new) (F.faults shelf.new) (F.calls shelf.new))) }
+        (F.state shelf.old) (F.state shelf.new)) }
 {
     match bisim(alloc, spec, other, pairs, shelf) {
         Ok(alone) => Ok(Ready::Alone(alone)),
@@ -46,11 +43,9 @@ pub fn induced<F: Shelf>(
 ) -> Result<Ready, NoMemory>
     ensures { MatchResult result
         (IsReady (Some (induction (names_induced spec.now proofs.now)))
-        (shelf_state (F.texts shelf.old) (F.faults shelf.old) (F.calls shelf.old))
-        (shelf_state (F.texts shelf.new) (F.faults shelf.new) (F.calls shelf.new)))
+        (F.state shelf.old) (F.state shelf.new))
         (λ _. CameTo (Some (induction (names_induced spec.now proofs.now)))
-        (shelf_state (F.texts shelf.old) (F.faults shelf.old) (F.calls shelf.old))
-        (shelf_state (F.texts shelf.new) (F.faults shelf.new) (F.calls shelf.new))) }
+        (F.state shelf.old) (F.state shelf.new)) }
 {
     match induct(alloc, spec, proofs, shelf) {
         Ok(alone) => Ok(Ready::Alone(alone)),

@@ -1,6 +1,6 @@
 //! The words that flatten a specification.
 
-ghost use Rattle.certificate_verbs.specs.HandedOn.{flattening, shelf_state, specification_of};
+ghost use Rattle.certificate_verbs.specs.HandedOn.{flattening, specification_of};
 ghost use Rattle.certificate_verbs.specs.declared.ended.Ended.TheVariants.{Done as done};
 ghost use Rattle.flat_text.specs.FlatText.{flat_text};
 ghost use Rattle.lotos_top.specs.Prepared.{CameTo, IsReady};
@@ -22,11 +22,9 @@ pub fn flattened<F: Shelf>(
 ) -> Result<Ready, NoMemory>
     ensures { MatchResult result
         (IsReady (Some (flattening spec.now (option_map (λ word. word.now) order.entry)))
-        (shelf_state (F.texts shelf.old) (F.faults shelf.old) (F.calls shelf.old))
-        (shelf_state (F.texts shelf.new) (F.faults shelf.new) (F.calls shelf.new)))
+        (F.state shelf.old) (F.state shelf.new))
         (λ _. CameTo (Some (flattening spec.now (option_map (λ word. word.now) order.entry)))
-        (shelf_state (F.texts shelf.old) (F.faults shelf.old) (F.calls shelf.old))
-        (shelf_state (F.texts shelf.new) (F.faults shelf.new) (F.calls shelf.new))) }
+        (F.state shelf.old) (F.state shelf.new)) }
 {
     match founded_under(alloc, spec, order, shelf) {
         Ok(known) => ready_alone(flat_alone(alloc, &known)),

@@ -19,7 +19,6 @@ ghost use Rattle.certificate_verbs.specs.HandedOn.{
   goes_on,
   head_text,
   session,
-  shelf_state,
   usage_text,
   words_of,
 };
@@ -100,11 +99,9 @@ pub enum Ready {
 pub fn prepare<F: Shelf>(alloc: Global, words: &[String], shelf: &mut F) -> Result<Ready, NoMemory>
     ensures { MatchResult result
         (IsReady (command_line (words_of words.now))
-        (shelf_state (F.texts shelf.old) (F.faults shelf.old) (F.calls shelf.old))
-        (shelf_state (F.texts shelf.new) (F.faults shelf.new) (F.calls shelf.new)))
+        (F.state shelf.old) (F.state shelf.new))
         (λ _. CameTo (command_line (words_of words.now))
-        (shelf_state (F.texts shelf.old) (F.faults shelf.old) (F.calls shelf.old))
-        (shelf_state (F.texts shelf.new) (F.faults shelf.new) (F.calls shelf.new))) }
+        (F.state shelf.old) (F.state shelf.new)) }
 {
     match parse_command(words) {
         Some(
@@ -153,13 +150,11 @@ fn checked<F: Shelf>(
     ensures { MatchResult result
         (IsReady (Some (check (asked_acceptance spec.now (option_map (λ word. word.now) order.entry)
         (words_of values.now))))
-        (shelf_state (F.texts shelf.old) (F.faults shelf.old) (F.calls shelf.old))
-        (shelf_state (F.texts shelf.new) (F.faults shelf.new) (F.calls shelf.new)))
+        (F.state shelf.old) (F.state shelf.new))
         (λ _. CameTo
         (Some (check (asked_acceptance spec.now (option_map (λ word. word.now) order.entry)
         (words_of values.now))))
-        (shelf_state (F.texts shelf.old) (F.faults shelf.old) (F.calls shelf.old))
-        (shelf_state (F.texts shelf.new) (F.faults shelf.new) (F.calls shelf.new))) }
+        (F.state shelf.old) (F.state shelf.new)) }
 {
     match open(alloc, spec, order, values, shelf) {
         Ok(opened) => ready_alone(opened_alone(alloc, &opened)),
@@ -180,13 +175,11 @@ fn served<F: Shelf>(
         (IsReady
         (Some (session (asked_acceptance spec.now (option_map (λ word. word.now) order.entry)
         (words_of values.now))))
-        (shelf_state (F.texts shelf.old) (F.faults shelf.old) (F.calls shelf.old))
-        (shelf_state (F.texts shelf.new) (F.faults shelf.new) (F.calls shelf.new)))
+        (F.state shelf.old) (F.state shelf.new))
         (λ _. CameTo
         (Some (session (asked_acceptance spec.now (option_map (λ word. word.now) order.entry)
         (words_of values.now))))
-        (shelf_state (F.texts shelf.old) (F.faults shelf.old) (F.calls shelf.old))
-        (shelf_state (F.texts shelf.new) (F.faults shelf.new) (F.calls shelf.new))) }
+        (F.state shelf.old) (F.state shelf.new)) }
 {
     match open(alloc, spec, order, values, shelf) {
         Ok(opened) => Ok(Ready::Session(opened)),
@@ -204,14 +197,12 @@ pub fn open<F: Shelf>(
 ) -> Result<Opened, NotAccepted>
     requires { IsTrue (are_within (words_of values.now)) }
     ensures { MatchResult result
-        (λ opened. Did (shelf_state (F.texts shelf.old) (F.faults shelf.old) (F.calls shelf.old))
-        (shelf_state (F.texts shelf.new) (F.faults shelf.new) (F.calls shelf.new))
+        (λ opened. Did (F.state shelf.old) (F.state shelf.new)
         (OpensSession
         (IsAccepted (asked_acceptance spec.now (option_map (λ word. word.now) order.entry)
         (words_of values.now))))
         (goes_on (begun opened)) × IsLawfulAt opened)
-        (Failed (shelf_state (F.texts shelf.old) (F.faults shelf.old) (F.calls shelf.old))
-        (shelf_state (F.texts shelf.new) (F.faults shelf.new) (F.calls shelf.new))
+        (Failed (F.state shelf.old) (F.state shelf.new)
         (OpensSession
         (IsAccepted (asked_acceptance spec.now (option_map (λ word. word.now) order.entry)
         (words_of values.now))))) }

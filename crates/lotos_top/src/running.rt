@@ -1,8 +1,7 @@
 //! The whole program over any outside.
 
-ghost use Rattle.certificate_verbs.specs.HandedOn.{IsServing, command_line, shelf_state, words_of};
+ghost use Rattle.certificate_verbs.specs.HandedOn.{IsServing, command_line, words_of};
 ghost use Rattle.certificate_verbs.specs.Printed.{print_in};
-ghost use Rattle.line_server.specs.Writing.{stream};
 ghost use Rattle.lotos_top.specs.Bisimilarity.{YesMeansBisimilar};
 ghost use Rattle.lotos_top.specs.Causes.{AnswersHaveCauses};
 ghost use Rattle.lotos_top.specs.Headline.{Headline};
@@ -54,52 +53,34 @@ pub fn run<F: Shelf, S: Source, K: Sink>(
     output: &mut K,
 ) -> Ended
     ensures ran { Ran (command_line (words_of words.now))
-        (shelf_state (F.texts shelf.old) (F.faults shelf.old) (F.calls shelf.old))
-        (shelf_state (F.texts shelf.new) (F.faults shelf.new) (F.calls shelf.new))
-        (streams (stream (S.left input.old) (S.faults input.old))
-        (stream (K.written output.old) (K.faults output.old)))
-        (streams (stream (S.left input.new) (S.faults input.new))
-        (stream (K.written output.new) (K.faults output.new)))
+        (F.state shelf.old) (F.state shelf.new)
+        (streams (S.state input.old) (K.state output.old))
+        (streams (S.state input.new) (K.state output.new))
         result }
     ensures causes { AnswersHaveCauses (command_line (words_of words.now))
-        (shelf_state (F.texts shelf.old) (F.faults shelf.old) (F.calls shelf.old))
-        (shelf_state (F.texts shelf.new) (F.faults shelf.new) (F.calls shelf.new))
-        (streams (stream (S.left input.old) (S.faults input.old))
-        (stream (K.written output.old) (K.faults output.old)))
-        (streams (stream (S.left input.new) (S.faults input.new))
-        (stream (K.written output.new) (K.faults output.new)))
+        (F.state shelf.old) (F.state shelf.new)
+        (streams (S.state input.old) (K.state output.old))
+        (streams (S.state input.new) (K.state output.new))
         result }
     ensures settled { IsSettled (command_line (words_of words.now))
-        (shelf_state (F.texts shelf.old) (F.faults shelf.old) (F.calls shelf.old))
-        (shelf_state (F.texts shelf.new) (F.faults shelf.new) (F.calls shelf.new))
-        (streams (stream (S.left input.old) (S.faults input.old))
-        (stream (K.written output.old) (K.faults output.old)))
-        (streams (stream (S.left input.new) (S.faults input.new))
-        (stream (K.written output.new) (K.faults output.new)))
+        (F.state shelf.old) (F.state shelf.new)
+        (streams (S.state input.old) (K.state output.old))
+        (streams (S.state input.new) (K.state output.new))
         result }
     ensures headline { Headline (command_line (words_of words.now))
-        (shelf_state (F.texts shelf.old) (F.faults shelf.old) (F.calls shelf.old))
-        (shelf_state (F.texts shelf.new) (F.faults shelf.new) (F.calls shelf.new))
-        (streams (stream (S.left input.old) (S.faults input.old))
-        (stream (K.written output.old) (K.faults output.old)))
-        (streams (stream (S.left input.new) (S.faults input.new))
-        (stream (K.written output.new) (K.faults output.new)))
+        (F.state shelf.old) (F.state shelf.new)
+        (streams (S.state input.old) (K.state output.old))
+        (streams (S.state input.new) (K.state output.new))
         result }
     ensures bisimilar { YesMeansBisimilar (command_line (words_of words.now))
-        (shelf_state (F.texts shelf.old) (F.faults shelf.old) (F.calls shelf.old))
-        (shelf_state (F.texts shelf.new) (F.faults shelf.new) (F.calls shelf.new))
-        (streams (stream (S.left input.old) (S.faults input.old))
-        (stream (K.written output.old) (K.faults output.old)))
-        (streams (stream (S.left input.new) (S.faults input.new))
-        (stream (K.written output.new) (K.faults output.new)))
+        (F.state shelf.old) (F.state shelf.new)
+        (streams (S.state input.old) (K.state output.old))
+        (streams (S.state input.new) (K.state output.new))
         result }
     ensures inductive { YesMeansInductive (command_line (words_of words.now))
-        (shelf_state (F.texts shelf.old) (F.faults shelf.old) (F.calls shelf.old))
-        (shelf_state (F.texts shelf.new) (F.faults shelf.new) (F.calls shelf.new))
-        (streams (stream (S.left input.old) (S.faults input.old))
-        (stream (K.written output.old) (K.faults output.old)))
-        (streams (stream (S.left input.new) (S.faults input.new))
-        (stream (K.written output.new) (K.faults output.new)))
+        (F.state shelf.old) (F.state shelf.new)
+        (streams (S.state input.old) (K.state output.old))
+        (streams (S.state input.new) (K.state output.new))
         result }
 {
     // (These do nothing. They carry the laws that the clauses stand on.)
@@ -122,12 +103,9 @@ fn run_over<F: Shelf, S: Source, K: Sink>(
     output: &mut K,
 ) -> Ended
     ensures { Ran (command_line (words_of words.now))
-        (shelf_state (F.texts shelf.old) (F.faults shelf.old) (F.calls shelf.old))
-        (shelf_state (F.texts shelf.new) (F.faults shelf.new) (F.calls shelf.new))
-        (streams (stream (S.left input.old) (S.faults input.old))
-        (stream (K.written output.old) (K.faults output.old)))
-        (streams (stream (S.left input.new) (S.faults input.new))
-        (stream (K.written output.new) (K.faults output.new)))
+        (F.state shelf.old) (F.state shelf.new)
+        (streams (S.state input.old) (K.state output.old))
+        (streams (S.state input.new) (K.state output.new))
         result }
 {
     match prepare(alloc, words, shelf) {
@@ -142,8 +120,7 @@ fn run_over<F: Shelf, S: Source, K: Sink>(
 
 // Prints a text with nothing behind it.
 fn print<K: Sink>(alone: &Alone, output: &mut K) -> Ended
-    ensures { Writes (print_in alone.now) (stream (K.written output.old) (K.faults output.old))
-        (stream (K.written output.new) (K.faults output.new)) result }
+    ensures { Writes (print_in alone.now) (K.state output.old) (K.state output.new) result }
 {
     match write_whole(output, alone.text.as_slice()) {
         Ok(()) => alone.ended,
@@ -163,18 +140,13 @@ fn serve<F: Shelf, S: Source, K: Sink>(
     requires lawful { IsLawfulAt opened }
     ensures { MatchResult result
         (ServesSession (begun opened)
-        (shelf_state (F.texts shelf.old) (F.faults shelf.old) (F.calls shelf.old))
-        (shelf_state (F.texts shelf.new) (F.faults shelf.new) (F.calls shelf.new))
-        (streams (stream (S.left input.old) (S.faults input.old))
-        (stream (K.written output.old) (K.faults output.old)))
-        (streams (stream (S.left input.new) (S.faults input.new))
-        (stream (K.written output.new) (K.faults output.new))))
-        (λ _. ((shelf_state (F.texts shelf.new) (F.faults shelf.new) (F.calls shelf.new))
-        ≡ (shelf_state (F.texts shelf.old) (F.faults shelf.old) (F.calls shelf.old)))
-        × ((streams (stream (S.left input.new) (S.faults input.new))
-        (stream (K.written output.new) (K.faults output.new)))
-        ≡ (streams (stream (S.left input.old) (S.faults input.old))
-        (stream (K.written output.old) (K.faults output.old))))) }
+        (F.state shelf.old) (F.state shelf.new)
+        (streams (S.state input.old) (K.state output.old))
+        (streams (S.state input.new) (K.state output.new)))
+        (λ _. ((F.state shelf.new)
+        ≡ (F.state shelf.old))
+        × ((streams (S.state input.new) (K.state output.new))
+        ≡ (streams (S.state input.old) (K.state output.old)))) }
 {
     let front = front_of(alloc, &opened)?;
     serve_front(alloc, &front, opened, shelf, input, output)
@@ -194,18 +166,13 @@ fn serve_front<F: Shelf, S: Source, K: Sink>(
     requires lawful { IsLawfulAt opened }
     ensures { MatchResult result
         (ServesSession (begun opened)
-        (shelf_state (F.texts shelf.old) (F.faults shelf.old) (F.calls shelf.old))
-        (shelf_state (F.texts shelf.new) (F.faults shelf.new) (F.calls shelf.new))
-        (streams (stream (S.left input.old) (S.faults input.old))
-        (stream (K.written output.old) (K.faults output.old)))
-        (streams (stream (S.left input.new) (S.faults input.new))
-        (stream (K.written output.new) (K.faults output.new))))
-        (λ _. ((shelf_state (F.texts shelf.new) (F.faults shelf.new) (F.calls shelf.new))
-        ≡ (shelf_state (F.texts shelf.old) (F.faults shelf.old) (F.calls shelf.old)))
-        × ((streams (stream (S.left input.new) (S.faults input.new))
-        (stream (K.written output.new) (K.faults output.new)))
-        ≡ (streams (stream (S.left input.old) (S.faults input.old))
-        (stream (K.written output.old) (K.faults output.old))))) }
+        (F.state shelf.old) (F.state shelf.new)
+        (streams (S.state input.old) (K.state output.old))
+        (streams (S.state input.new) (K.state output.new)))
+        (λ _. ((F.state shelf.new)
+        ≡ (F.state shelf.old))
+        × ((streams (S.state input.new) (K.state output.new))
+        ≡ (streams (S.state input.old) (K.state output.old)))) }
 {
     let reader = Reader::of(alloc, &front.signature)?;
     let Opened { session, book } = opened;
@@ -237,12 +204,9 @@ fn serve_behind<F: Shelf, S: Source, K: Sink>(
     requires text { text.now ≡ opening_text (beginning_of lines.old) }
     requires serving { IsServing MakerSuits lines.old }
     ensures { ServesSession (beginning_of lines.old)
-        (shelf_state (F.texts shelf.old) (F.faults shelf.old) (F.calls shelf.old))
-        (shelf_state (F.texts shelf.new) (F.faults shelf.new) (F.calls shelf.new))
-        (streams (stream (S.left input.old) (S.faults input.old))
-        (stream (K.written output.old) (K.faults output.old)))
-        (streams (stream (S.left input.new) (S.faults input.new))
-        (stream (K.written output.new) (K.faults output.new)))
+        (F.state shelf.old) (F.state shelf.new)
+        (streams (S.state input.old) (K.state output.old))
+        (streams (S.state input.new) (K.state output.new))
         result }
 {
     match write_whole(output, text) {

@@ -30,11 +30,7 @@ impl<'a, R: Files> FileShelf<'a, R> {
 }
 
 impl<R: Files> Shelf for FileShelf<'_, R> {
-    ghost texts = { λ _. None };
-
-    ghost faults = { λ shelf. shelf.faults };
-
-    ghost calls = { λ shelf. shelf.calls };
+    ghost state = { λ shelf. record { texts = None; faults = shelf.faults; calls = shelf.calls } };
 
     fn get(&mut self, name: &str, limit: usize, into: &mut Vec<u8>) -> Result<(), GetFault> {
         self.calls = counted(self.calls);

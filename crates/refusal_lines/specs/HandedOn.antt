@@ -17,7 +17,7 @@ pub use Rattle.lotos_grammar.specs.HandedOn.{IsSpecificationReading, IsOrderRead
 pub use Rattle.lotos_grammar.specs.HandedOn.{ReadFault}
 pub use Rattle.lotos_grammar.specs.HandedOn.read_faults
 pub use Rattle.lotos_grammar.specs.Progress.{IsGathered, AsksInAll, FailsBy}
-pub use Rattle.lotos_grammar.specs.ShelfUse.{ShelfState, GivesFile, IsFileOf, Gives, GivesAndLacks, GivesSome, shelf_state, calls_after}
+pub use Rattle.lotos_grammar.specs.ShelfUse.{ShelfState, GivesFile, IsFileOf, Gives, GivesAndLacks, GivesSome, calls_after}
 pub use Rattle.lotos_grammar.specs.TextFault as text_fault
 pub use Rattle.lotos_grammar.specs.TextFault.{TextFault, text_fault_of, TextIsMisread}
 pub use Rattle.lotos_grammar.specs.declared.faults.LibraryFault.{LibraryFault}

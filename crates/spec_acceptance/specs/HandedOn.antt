@@ -4,7 +4,7 @@ pub use Rattle.refusal_lines.specs.HandedOn.{Gathered, GatheringOutcome, all_gat
 pub use Rattle.refusal_lines.specs.HandedOn.{nothing_yet, with_type, Waiting, mention, MentionComesTo, read_before, one_too_many, in_place}
 pub use Rattle.refusal_lines.specs.HandedOn.{not_read, no_file, wanted_before_text, wanted_behind_text, goes_on, stops, nothing_waits, then}
 pub use Rattle.refusal_lines.specs.HandedOn.{a_type, mentions, ends, memory_ends, book_canon, book_chooses, book_is_canon, Book, IsOpenedBy}
-pub use Rattle.refusal_lines.specs.HandedOn.{GotFile, Files, AreGotFrom, ShelfState, shelf_state, IsFileOf, calls_after, Gives, GivesSome}
+pub use Rattle.refusal_lines.specs.HandedOn.{GotFile, Files, AreGotFrom, ShelfState, IsFileOf, calls_after, Gives, GivesSome}
 pub use Rattle.refusal_lines.specs.Refusal.{Refused, Refusal}
 pub use Rattle.refusal_lines.specs.StartLaws.{StartValuesAreGround}
 pub use Rattle.refusal_lines.specs.WordLimits.{words_of, words_limit, word_bytes_limit, total_length, are_within}

@@ -1,7 +1,6 @@
 //! The acceptance of a specification.
 
 ghost use Rattle.refusal_lines.specs.WordLimits.{are_within, words_of};
-ghost use Rattle.refusal_lines.specs.HandedOn.{shelf_state};
 ghost use Rattle.spec_acceptance.specs.Acceptance.{AcceptsText, IsAccepted};
 ghost use Rattle.spec_acceptance.specs.AcceptedView.{AcceptsWith, asked_acceptance};
 ghost use Rattle.spec_acceptance.specs.Doing.{Failed};
@@ -51,12 +50,10 @@ impl Accepted {
     ) -> Result<Accepted, NotAccepted>
         requires { IsTrue (are_within (words_of values.now)) }
         ensures { MatchResult result
-            (AcceptsWith (shelf_state (F.texts shelf.old) (F.faults shelf.old) (F.calls shelf.old))
-            (shelf_state (F.texts shelf.new) (F.faults shelf.new) (F.calls shelf.new))
+            (AcceptsWith (F.state shelf.old) (F.state shelf.new)
             (IsAccepted (asked_acceptance spec.now (option_map (λ word. word.now) order.entry)
             (words_of values.now))))
-            (Failed (shelf_state (F.texts shelf.old) (F.faults shelf.old) (F.calls shelf.old))
-            (shelf_state (F.texts shelf.new) (F.faults shelf.new) (F.calls shelf.new))
+            (Failed (F.state shelf.old) (F.state shelf.new)
             (IsAccepted (asked_acceptance spec.now (option_map (λ word. word.now) order.entry)
             (words_of values.now)))) }
     {
@@ -76,12 +73,10 @@ impl Accepted {
     ) -> Result<Accepted, NotAccepted>
         requires { IsTrue (are_within (words_of values.now)) }
         ensures { MatchResult result
-            (AcceptsWith (shelf_state (F.texts shelf.old) (F.faults shelf.old) (F.calls shelf.old))
-            (shelf_state (F.texts shelf.new) (F.faults shelf.new) (F.calls shelf.new))
+            (AcceptsWith (F.state shelf.old) (F.state shelf.new)
             (AcceptsText text.now (option_map (λ word. word.now) order.entry)
             (words_of values.now)))
-            (Failed (shelf_state (F.texts shelf.old) (F.faults shelf.old) (F.calls shelf.old))
-            (shelf_state (F.texts shelf.new) (F.faults shelf.new) (F.calls shelf.new))
+            (Failed (F.state shelf.old) (F.state shelf.new)
             (AcceptsText text.now (option_map (λ word. word.now) order.entry) (words_of
             values.now))) }
     {

@@ -1,6 +1,6 @@
 //! Accepted specifications whose texts are kept, and the same texts over other data.
 
-ghost use Rattle.refusal_lines.specs.HandedOn.{IsSpecificationReading, shelf_state};
+ghost use Rattle.refusal_lines.specs.HandedOn.{IsSpecificationReading};
 ghost use Rattle.sort_terms.specs.EquationView.{data_of};
 ghost use Rattle.spec_acceptance.specs.Acceptance.{Acceptance, IsAccepted};
 ghost use Rattle.spec_acceptance.specs.AcceptedView.{asked_acceptance};
@@ -47,11 +47,9 @@ pub fn read_with_text<F: Shelf>(
     shelf: &mut F,
 ) -> Result<WithText, NotAccepted>
     ensures { MatchResult result
-        (KeepsAccepted (shelf_state (F.texts shelf.old) (F.faults shelf.old) (F.calls shelf.old))
-        (shelf_state (F.texts shelf.new) (F.faults shelf.new) (F.calls shelf.new))
+        (KeepsAccepted (F.state shelf.old) (F.state shelf.new)
         (asked_acceptance spec.now None []))
-        (Failed (shelf_state (F.texts shelf.old) (F.faults shelf.old) (F.calls shelf.old))
-        (shelf_state (F.texts shelf.new) (F.faults shelf.new) (F.calls shelf.new))
+        (Failed (F.state shelf.old) (F.state shelf.new)
         (IsAccepted (asked_acceptance spec.now None []))) }
 {
     let text = file(alloc, spec, shelf)?;

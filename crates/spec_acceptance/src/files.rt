@@ -1,6 +1,6 @@
 //! Getting a file from the shelf.
 
-ghost use Rattle.refusal_lines.specs.HandedOn.{GivesFile, shelf_state};
+ghost use Rattle.refusal_lines.specs.HandedOn.{GivesFile};
 ghost use Rattle.spec_acceptance.specs.Doing.{FileIsNotGot};
 ghost use Rattle.std.specs.Prelude.{MatchResult};
 
@@ -12,12 +12,9 @@ use std::alloc::Global;
 /// count of faults rose in this call, or the shelf lacks the file.
 pub fn file<F: Shelf>(alloc: Global, name: &str, shelf: &mut F) -> Result<Vec<u8>, NotAccepted>
     ensures { MatchResult result
-        (λ text. GivesFile (shelf_state (F.texts shelf.old) (F.faults shelf.old) (F.calls
-        shelf.old))
-        (shelf_state (F.texts shelf.new) (F.faults shelf.new) (F.calls shelf.new))
+        (λ text. GivesFile (F.state shelf.old) (F.state shelf.new)
         name.now text.items)
-        (FileIsNotGot (shelf_state (F.texts shelf.old) (F.faults shelf.old) (F.calls shelf.old))
-        (shelf_state (F.texts shelf.new) (F.faults shelf.new) (F.calls shelf.new))
+        (FileIsNotGot (F.state shelf.old) (F.state shelf.new)
         name.now) }
 {
     let kept = Vec::from_slice(alloc, name.as_bytes())?;

@@ -1,6 +1,6 @@
 //! A specification up to the book of its data.
 
-ghost use Rattle.refusal_lines.specs.HandedOn.{IsSpecificationReading, shelf_state};
+ghost use Rattle.refusal_lines.specs.HandedOn.{IsSpecificationReading};
 ghost use Rattle.spec_acceptance.specs.Acceptance.{FoundedBy, Founds, IsFounded};
 ghost use Rattle.spec_acceptance.specs.Doing.{Failed};
 ghost use Rattle.spec_acceptance.specs.Known.{FoundsWith};
@@ -27,11 +27,9 @@ pub fn founded<F: Shelf>(
     shelf: &mut F,
 ) -> Result<WithBook, NotAccepted>
     ensures { MatchResult result
-        (FoundsWith (shelf_state (F.texts shelf.old) (F.faults shelf.old) (F.calls shelf.old))
-        (shelf_state (F.texts shelf.new) (F.faults shelf.new) (F.calls shelf.new))
+        (FoundsWith (F.state shelf.old) (F.state shelf.new)
         (Founds text.now (option_map (λ word. word.now) order.entry)))
-        (Failed (shelf_state (F.texts shelf.old) (F.faults shelf.old) (F.calls shelf.old))
-        (shelf_state (F.texts shelf.new) (F.faults shelf.new) (F.calls shelf.new))
+        (Failed (F.state shelf.old) (F.state shelf.new)
         (Founds text.now (option_map (λ word. word.now) order.entry))) }
 {
     let mut tree = specification(alloc, text)?;
@@ -49,11 +47,9 @@ pub fn founded_under<F: Shelf>(
     shelf: &mut F,
 ) -> Result<WithBook, NotAccepted>
     ensures { MatchResult result
-        (FoundsWith (shelf_state (F.texts shelf.old) (F.faults shelf.old) (F.calls shelf.old))
-        (shelf_state (F.texts shelf.new) (F.faults shelf.new) (F.calls shelf.new))
+        (FoundsWith (F.state shelf.old) (F.state shelf.new)
         (IsFounded spec.now (option_map (λ word. word.now) order.entry)))
-        (Failed (shelf_state (F.texts shelf.old) (F.faults shelf.old) (F.calls shelf.old))
-        (shelf_state (F.texts shelf.new) (F.faults shelf.new) (F.calls shelf.new))
+        (Failed (F.state shelf.old) (F.state shelf.new)
         (IsFounded spec.now (option_map (λ word. word.now) order.entry))) }
 {
     let text = file(alloc, spec, shelf)?;
@@ -69,11 +65,9 @@ fn with_book<F: Shelf>(
 ) -> Result<WithBook, NotAccepted>
     requires { (text : List ℕ) × IsSpecificationReading 0 text (written_specification_of tree.old) }
     ensures { MatchResult result
-        (FoundsWith (shelf_state (F.texts shelf.old) (F.faults shelf.old) (F.calls shelf.old))
-        (shelf_state (F.texts shelf.new) (F.faults shelf.new) (F.calls shelf.new))
+        (FoundsWith (F.state shelf.old) (F.state shelf.new)
         (FoundedBy (option_map (λ word. word.now) order.entry) (written_specification_of tree.old)))
-        (Failed (shelf_state (F.texts shelf.old) (F.faults shelf.old) (F.calls shelf.old))
-        (shelf_state (F.texts shelf.new) (F.faults shelf.new) (F.calls shelf.new))
+        (Failed (F.state shelf.old) (F.state shelf.new)
         (FoundedBy (option_map (λ word. word.now) order.entry)
         (written_specification_of tree.old))) }
 {

@@ -4,7 +4,6 @@ ghost use Rattle.lotos_base.specs.Name.{spelling};
 ghost use Rattle.refusal_lines.specs.HandedOn.{
   IsSpecificationReading,
   gathered_of,
-  shelf_state,
 };
 ghost use Rattle.sort_terms.specs.EquationView.{data_of};
 ghost use Rattle.spec_acceptance.specs.Acceptance.{AcceptsText, FoundedBy, Founds, IsAccepted};
@@ -66,11 +65,9 @@ pub fn read_with_requirements<F: Shelf>(
 ) -> Result<WithRequirements, NotAccepted>
     ensures { MatchResult result
         (KeepsRequirements
-        (shelf_state (F.texts shelf.old) (F.faults shelf.old) (F.calls shelf.old))
-        (shelf_state (F.texts shelf.new) (F.faults shelf.new) (F.calls shelf.new))
+        (F.state shelf.old) (F.state shelf.new)
         (asked_acceptance spec.now None []))
-        (Failed (shelf_state (F.texts shelf.old) (F.faults shelf.old) (F.calls shelf.old))
-        (shelf_state (F.texts shelf.new) (F.faults shelf.new) (F.calls shelf.new))
+        (Failed (F.state shelf.old) (F.state shelf.new)
         (IsAccepted (asked_acceptance spec.now None []))) }
 {
     let mut required = Required {
@@ -90,11 +87,9 @@ fn accepted_requiring<F: Shelf>(
 ) -> Result<Accepted, NotAccepted>
     ensures { MatchResult result
         (λ accepted. AcceptsRequiring
-        (shelf_state (F.texts shelf.old) (F.faults shelf.old) (F.calls shelf.old))
-        (shelf_state (F.texts shelf.new) (F.faults shelf.new) (F.calls shelf.new))
+        (F.state shelf.old) (F.state shelf.new)
         (IsAccepted (asked_acceptance spec.now None [])) accepted required.new)
-        (Failed (shelf_state (F.texts shelf.old) (F.faults shelf.old) (F.calls shelf.old))
-        (shelf_state (F.texts shelf.new) (F.faults shelf.new) (F.calls shelf.new))
+        (Failed (F.state shelf.old) (F.state shelf.new)
         (IsAccepted (asked_acceptance spec.now None []))) }
 {
     let text = file(alloc, spec, shelf)?;
@@ -110,11 +105,9 @@ fn text_requiring<F: Shelf>(
 ) -> Result<Accepted, NotAccepted>
     ensures { MatchResult result
         (λ accepted. AcceptsRequiring
-        (shelf_state (F.texts shelf.old) (F.faults shelf.old) (F.calls shelf.old))
-        (shelf_state (F.texts shelf.new) (F.faults shelf.new) (F.calls shelf.new))
+        (F.state shelf.old) (F.state shelf.new)
         (AcceptsText text.now None []) accepted required.new)
-        (Failed (shelf_state (F.texts shelf.old) (F.faults shelf.old) (F.calls shelf.old))
-        (shelf_state (F.texts shelf.new) (F.faults shelf.new) (F.calls shelf.new))
+        (Failed (F.state shelf.old) (F.state shelf.new)
         (AcceptsText text.now None [])) }
 {
     let known = founded_requiring(alloc, text, shelf, required)?;
@@ -131,11 +124,9 @@ fn founded_requiring<F: Shelf>(
 ) -> Result<WithBook, NotAccepted>
     ensures { MatchResult result
         (λ made. RequiresWith
-        (shelf_state (F.texts shelf.old) (F.faults shelf.old) (F.calls shelf.old))
-        (shelf_state (F.texts shelf.new) (F.faults shelf.new) (F.calls shelf.new))
+        (F.state shelf.old) (F.state shelf.new)
         (Founds text.now None) made required.new)
-        (Failed (shelf_state (F.texts shelf.old) (F.faults shelf.old) (F.calls shelf.old))
-        (shelf_state (F.texts shelf.new) (F.faults shelf.new) (F.calls shelf.new))
+        (Failed (F.state shelf.old) (F.state shelf.new)
         (Founds text.now None)) }
 {
     let mut tree = specification(alloc, text)?;
@@ -154,11 +145,9 @@ fn tree_requiring<F: Shelf>(
     requires { (text : List ℕ) × IsSpecificationReading 0 text (written_specification_of tree.old) }
     ensures { MatchResult result
         (λ made. RequiresWith
-        (shelf_state (F.texts shelf.old) (F.faults shelf.old) (F.calls shelf.old))
-        (shelf_state (F.texts shelf.new) (F.faults shelf.new) (F.calls shelf.new))
+        (F.state shelf.old) (F.state shelf.new)
         (FoundedBy None (written_specification_of tree.old)) made required.new)
-        (Failed (shelf_state (F.texts shelf.old) (F.faults shelf.old) (F.calls shelf.old))
-        (shelf_state (F.texts shelf.new) (F.faults shelf.new) (F.calls shelf.new))
+        (Failed (F.state shelf.old) (F.state shelf.new)
         (FoundedBy None (written_specification_of tree.old))) }
 {
     let items = tree.take_items(alloc)?;

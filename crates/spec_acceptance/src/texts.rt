@@ -6,7 +6,6 @@ ghost use Rattle.refusal_lines.specs.HandedOn.{
   IsSpecificationReading,
   TextIsMisread,
   gathered_of,
-  shelf_state,
 };
 ghost use Rattle.spec_acceptance.specs.Doing.{Did, Failed, Faulty, IsLibraryRefusal};
 ghost use Rattle.spec_acceptance.specs.Ending.{at_first, with_spec};
@@ -44,11 +43,9 @@ pub fn types_of<F: Shelf>(
     shelf: &mut F,
 ) -> Result<Gathered, NotAccepted>
     ensures { MatchResult result
-        (λ gathered. Did (shelf_state (F.texts shelf.old) (F.faults shelf.old) (F.calls shelf.old))
-        (shelf_state (F.texts shelf.new) (F.faults shelf.new) (F.calls shelf.new))
+        (λ gathered. Did (F.state shelf.old) (F.state shelf.new)
         (GathersTypes (map item_of items.items)) (goes_on (gathered_of gathered)))
-        (Failed (shelf_state (F.texts shelf.old) (F.faults shelf.old) (F.calls shelf.old))
-        (shelf_state (F.texts shelf.new) (F.faults shelf.new) (F.calls shelf.new))
+        (Failed (F.state shelf.old) (F.state shelf.new)
         (GathersTypes (map item_of items.items))) }
 {
     let mut so_far = Gathered::new(alloc);
@@ -86,11 +83,9 @@ pub fn order_items<F: Shelf>(
 ) -> Result<WithOrder, NotAccepted>
     ensures { (whole : Resolved) → KnowsRanks whole known → MatchResult result
         (λ made. OrdersWith whole
-        (shelf_state (F.texts shelf.old) (F.faults shelf.old) (F.calls shelf.old))
-        (shelf_state (F.texts shelf.new) (F.faults shelf.new) (F.calls shelf.new))
+        (F.state shelf.old) (F.state shelf.new)
         (option_map (λ word. word.now) order.entry) made)
-        (Failed (shelf_state (F.texts shelf.old) (F.faults shelf.old) (F.calls shelf.old))
-        (shelf_state (F.texts shelf.new) (F.faults shelf.new) (F.calls shelf.new))
+        (Failed (F.state shelf.old) (F.state shelf.new)
         (Orders (with_spec whole.read whole.data_ whole.spec)
         (option_map (λ word. word.now) order.entry))) }
 {

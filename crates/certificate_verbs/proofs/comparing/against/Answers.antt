@@ -1,5 +1,5 @@
 use Rattle.std.proofs.Common.{[], None}
-use Rattle.command_words.specs.HandedOn.{Acceptance, IsAccepted, asked_acceptance, shelf_state}
+use Rattle.command_words.specs.HandedOn.{Acceptance, IsAccepted, asked_acceptance}
 use Rattle.certificate_verbs.specs.Comparing.{AcceptsNamed, AcceptsThen, ComparesThen}
 use Rattle.certificate_verbs.specs.Printed.{IsFaultPrinted, print_in}
 use Rattle.certificate_verbs.specs.declared.printing.Alone.{Alone}
@@ -10,19 +10,14 @@ use Rattle.certificate_verbs.proofs.comparing.against.Goals as goal
 pub returns-in-Ok : goal.returns-in-Ok
 returns-in-Ok g c = λ first h.
     onwards
-    (shelf_state (g.F.Shelf.texts c.args.shelf.now) (g.F.Shelf.faults c.args.shelf.now) (g.F.Shelf.calls c.args.shelf.now))
-    (shelf_state (g.F.Shelf.texts c.read_with_text.new.shelf) (g.F.Shelf.faults c.read_with_text.new.shelf)
-    (g.F.Shelf.calls c.read_with_text.new.shelf))
-    (shelf_state (g.F.Shelf.texts c.both.new.shelf) (g.F.Shelf.faults c.both.new.shelf) (g.F.Shelf.calls c.both.new.shelf))
+    (g.F.Shelf.state c.args.shelf.now) (g.F.Shelf.state c.read_with_text.new.shelf) (g.F.Shelf.state c.both.new.shelf)
     (AcceptsNamed c.args.other.now) (λ (x : Acceptance). ComparesThen first x c.args.pairs.now) c.in-Ok.ensures.acceptance c.both.result
     c.in-Ok.ensures.came (c.both.ensures first c.in-Ok.ensures.acceptance h c.in-Ok.ensures.holds)
 
 pub returns-in-Err : goal.returns-in-Err
 returns-in-Err g c = λ first h.
     answered (AcceptsThen first c.args.other.now c.args.pairs.now)
-    (shelf_state (g.F.Shelf.texts c.args.shelf.now) (g.F.Shelf.faults c.args.shelf.now) (g.F.Shelf.calls c.args.shelf.now))
-    (shelf_state (g.F.Shelf.texts c.read_with_text.new.shelf) (g.F.Shelf.faults c.read_with_text.new.shelf)
-    (g.F.Shelf.calls c.read_with_text.new.shelf))
+    (g.F.Shelf.state c.args.shelf.now) (g.F.Shelf.state c.read_with_text.new.shelf)
     (λ (alone : Alone). IsFaultPrinted c.args.other.now None c.in-Err.fault (print_in alone)) c.failed_alone.result
     c.failed_alone.ensures
     (λ alone is. fault_ready c.args.other.now None (IsAccepted (asked_acceptance c.args.other.now None []))

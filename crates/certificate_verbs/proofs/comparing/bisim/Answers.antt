@@ -1,5 +1,5 @@
 use Rattle.std.proofs.Common.{[], None}
-use Rattle.command_words.specs.HandedOn.{Acceptance, IsAccepted, asked_acceptance, shelf_state}
+use Rattle.command_words.specs.HandedOn.{Acceptance, IsAccepted, asked_acceptance}
 use Rattle.command_words.specs.Words.{compared_files as names_compared}
 use Rattle.certificate_verbs.specs.Comparing.{AcceptsNamed, AcceptsThen, ChecksCertificate}
 use Rattle.certificate_verbs.specs.Printed.{IsFaultPrinted, print_in}
@@ -11,19 +11,14 @@ use Rattle.certificate_verbs.proofs.comparing.bisim.Goals as goal
 pub returns-in-Ok : goal.returns-in-Ok
 returns-in-Ok g c =
     onwards
-    (shelf_state (g.F.Shelf.texts c.args.shelf.now) (g.F.Shelf.faults c.args.shelf.now) (g.F.Shelf.calls c.args.shelf.now))
-    (shelf_state (g.F.Shelf.texts c.read_with_text.new.shelf) (g.F.Shelf.faults c.read_with_text.new.shelf)
-    (g.F.Shelf.calls c.read_with_text.new.shelf))
-    (shelf_state (g.F.Shelf.texts c.against.new.shelf) (g.F.Shelf.faults c.against.new.shelf) (g.F.Shelf.calls c.against.new.shelf))
+    (g.F.Shelf.state c.args.shelf.now) (g.F.Shelf.state c.read_with_text.new.shelf) (g.F.Shelf.state c.against.new.shelf)
     (AcceptsNamed c.args.spec.now) (λ (x : Acceptance). AcceptsThen x c.args.other.now c.args.pairs.now) c.in-Ok.ensures.acceptance
     c.against.result c.in-Ok.ensures.came (c.against.ensures c.in-Ok.ensures.acceptance c.in-Ok.ensures.holds)
 
 pub returns-in-Err : goal.returns-in-Err
 returns-in-Err g c =
     answered (ChecksCertificate (names_compared c.args.spec.now c.args.other.now c.args.pairs.now))
-    (shelf_state (g.F.Shelf.texts c.args.shelf.now) (g.F.Shelf.faults c.args.shelf.now) (g.F.Shelf.calls c.args.shelf.now))
-    (shelf_state (g.F.Shelf.texts c.read_with_text.new.shelf) (g.F.Shelf.faults c.read_with_text.new.shelf)
-    (g.F.Shelf.calls c.read_with_text.new.shelf))
+    (g.F.Shelf.state c.args.shelf.now) (g.F.Shelf.state c.read_with_text.new.shelf)
     (λ (alone : Alone). IsFaultPrinted c.args.spec.now None c.in-Err.fault (print_in alone)) c.failed_alone.result
     c.failed_alone.ensures
     (λ alone is. fault_ready c.args.spec.now None (IsAccepted (asked_acceptance c.args.spec.now None []))

@@ -1,11 +1,10 @@
-use Rattle.command_words.specs.HandedOn.{shelf_state}
 use Rattle.certificate_verbs.proofs.ComparingLemmas.{agreed, not_agreed, data_differ, data_same}
 use Rattle.certificate_verbs.proofs.comparing.both.Goals as goal
 
 pub returns-then-not-same_data : goal.returns-then-not-same_data
 returns-then-not-same_data g c = λ first other h k.
     data_differ first other c.args.one.now c.args.second.now
-    (shelf_state (g.F.Shelf.texts c.args.shelf.now) (g.F.Shelf.faults c.args.shelf.now) (g.F.Shelf.calls c.args.shelf.now))
+    (g.F.Shelf.state c.args.shelf.now)
     c.args.pairs.now c.plainly_refused.result h k
     (not_agreed c.flat.result.now c.flat-2.result.now c.args.one.now.accepted.book.flat c.args.second.now.accepted.book.flat
     c.same_data.result c.flat.ensures c.flat-2.ensures c.same_data.ensures c.if-not-same_data.true)
@@ -14,9 +13,7 @@ returns-then-not-same_data g c = λ first other h k.
 pub returns : goal.returns
 returns g c = λ first other h k.
     data_same first other c.args.one.now c.args.second.now
-    (shelf_state (g.F.Shelf.texts c.args.shelf.now) (g.F.Shelf.faults c.args.shelf.now) (g.F.Shelf.calls c.args.shelf.now))
-    (shelf_state (g.F.Shelf.texts c.certified.new.shelf) (g.F.Shelf.faults c.certified.new.shelf)
-    (g.F.Shelf.calls c.certified.new.shelf))
+    (g.F.Shelf.state c.args.shelf.now) (g.F.Shelf.state c.certified.new.shelf)
     c.args.pairs.now c.certified.result h k
     (agreed c.flat.result.now c.flat-2.result.now c.args.one.now.accepted.book.flat c.args.second.now.accepted.book.flat
     c.same_data.result c.flat.ensures c.flat-2.ensures c.same_data.ensures c.if-not-same_data.false)

@@ -1,5 +1,5 @@
 use Rattle.std.proofs.Common.{[], None}
-use Rattle.command_words.specs.HandedOn.{Acceptance, IsAccepted, asked_acceptance, shelf_state}
+use Rattle.command_words.specs.HandedOn.{Acceptance, IsAccepted, asked_acceptance}
 use Rattle.command_words.specs.Words.{induced as names_induced}
 use Rattle.certificate_verbs.specs.Comparing.{AcceptsNamed}
 use Rattle.certificate_verbs.specs.Inducing.{ProvesThen, ChecksInduction}
@@ -12,19 +12,14 @@ use Rattle.certificate_verbs.proofs.inducing.induct.Goals as goal
 pub returns-in-Ok : goal.returns-in-Ok
 returns-in-Ok g c =
     onwards
-    (shelf_state (g.F.Shelf.texts c.args.shelf.now) (g.F.Shelf.faults c.args.shelf.now) (g.F.Shelf.calls c.args.shelf.now))
-    (shelf_state (g.F.Shelf.texts c.read_with_requirements.new.shelf) (g.F.Shelf.faults c.read_with_requirements.new.shelf)
-    (g.F.Shelf.calls c.read_with_requirements.new.shelf))
-    (shelf_state (g.F.Shelf.texts c.proved.new.shelf) (g.F.Shelf.faults c.proved.new.shelf) (g.F.Shelf.calls c.proved.new.shelf))
+    (g.F.Shelf.state c.args.shelf.now) (g.F.Shelf.state c.read_with_requirements.new.shelf) (g.F.Shelf.state c.proved.new.shelf)
     (AcceptsNamed c.args.spec.now) (λ (x : Acceptance). ProvesThen c.args.spec.now x c.args.proofs.now) c.in-Ok.ensures.acceptance
     c.proved.result c.in-Ok.ensures.came (c.proved.ensures c.in-Ok.ensures.acceptance c.in-Ok.ensures.holds)
 
 pub returns-in-Err : goal.returns-in-Err
 returns-in-Err g c =
     answered (ChecksInduction (names_induced c.args.spec.now c.args.proofs.now))
-    (shelf_state (g.F.Shelf.texts c.args.shelf.now) (g.F.Shelf.faults c.args.shelf.now) (g.F.Shelf.calls c.args.shelf.now))
-    (shelf_state (g.F.Shelf.texts c.read_with_requirements.new.shelf) (g.F.Shelf.faults c.read_with_requirements.new.shelf)
-    (g.F.Shelf.calls c.read_with_requirements.new.shelf))
+    (g.F.Shelf.state c.args.shelf.now) (g.F.Shelf.state c.read_with_requirements.new.shelf)
     (λ (alone : Alone). IsFaultPrinted c.args.spec.now None c.in-Err.fault (print_in alone)) c.failed_alone.result
     c.failed_alone.ensures
     (λ alone is. fault_ready c.args.spec.now None (IsAccepted (asked_acceptance c.args.spec.now None []))

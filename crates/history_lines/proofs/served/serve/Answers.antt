@@ -19,9 +19,9 @@ answer-requires-clause-short g c = (
 pub returns-clause-answered : goal.returns-clause-answered
 returns-clause-answered g c =
     appends_reply
-    (point_of c.args.lines.now (g.F.Shelf.texts c.args.shelf.now) (g.F.Shelf.faults c.args.shelf.now) (g.F.Shelf.calls c.args.shelf.now))
-    (point_of c.answer.new.self (g.F.Shelf.texts c.answer.new.shelf) (g.F.Shelf.faults c.answer.new.shelf)
-    (g.F.Shelf.calls c.answer.new.shelf)) c.args.line.now (wants c.read_request-request.result) c.in_ok-text.text.items
+    (point_of c.args.lines.now (g.F.Shelf.state c.args.shelf.now))
+    (point_of c.answer.new.self (g.F.Shelf.state c.answer.new.shelf)) c.args.line.now (wants c.read_request-request.result)
+    c.in_ok-text.text.items
     c.args.into.now.items c.append.new.into.items c.served_by-served.result c.read_request-request.ensures c.served_by-served.ensures
     c.in_ok-text.ensures.answered c.in_ok-text.ensures.called
     (c.in_ok-append.ensures.appended ∙ ap (λ (it : List ℕ). c.args.into.now.items ++ it) c.as_slice.ensures.value)
@@ -30,17 +30,17 @@ pub returns-in_err-text-clause-answered : goal.returns-in_err-text-clause-answer
 returns-in_err-text-clause-answered g c =
     gave_up _ _ c.from_residual.result c.in_err-text.field-0.0 c.from_residual.ensures.1
     (appends_nothing
-    (point_of c.args.lines.now (g.F.Shelf.texts c.args.shelf.now) (g.F.Shelf.faults c.args.shelf.now) (g.F.Shelf.calls c.args.shelf.now))
-    (point_of c.answer.new.self (g.F.Shelf.texts c.answer.new.shelf) (g.F.Shelf.faults c.answer.new.shelf)
-    (g.F.Shelf.calls c.answer.new.shelf)) c.args.line.now (wants c.read_request-request.result) c.args.into.now.items
+    (point_of c.args.lines.now (g.F.Shelf.state c.args.shelf.now))
+    (point_of c.answer.new.self (g.F.Shelf.state c.answer.new.shelf)) c.args.line.now (wants c.read_request-request.result)
+    c.args.into.now.items
     c.args.into.now.items c.read_request-request.ensures c.in_err-text.ensures.answered c.in_err-text.ensures.called refl)
 
 pub returns-in_err-append-clause-answered : goal.returns-in_err-append-clause-answered
 returns-in_err-append-clause-answered g c =
     gave_up _ _ c.from_residual-in_err-append.result c.in_err-append.field-0.0 c.from_residual-in_err-append.ensures.1
     (appends_nothing_behind
-    (point_of c.args.lines.now (g.F.Shelf.texts c.args.shelf.now) (g.F.Shelf.faults c.args.shelf.now) (g.F.Shelf.calls c.args.shelf.now))
-    (point_of c.answer.new.self (g.F.Shelf.texts c.answer.new.shelf) (g.F.Shelf.faults c.answer.new.shelf)
-    (g.F.Shelf.calls c.answer.new.shelf)) c.args.line.now (wants c.read_request-request.result) c.in_ok-text.text.items
+    (point_of c.args.lines.now (g.F.Shelf.state c.args.shelf.now))
+    (point_of c.answer.new.self (g.F.Shelf.state c.answer.new.shelf)) c.args.line.now (wants c.read_request-request.result)
+    c.in_ok-text.text.items
     c.args.into.now.items c.append.new.into.items c.read_request-request.ensures c.in_ok-text.ensures.answered
     c.in_ok-text.ensures.called c.in_err-append.ensures.kept)

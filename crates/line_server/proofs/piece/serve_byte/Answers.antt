@@ -11,10 +11,8 @@ returns-in-Ok-clause-served g c = byte_joined g.L.Lines.machine c.args.line.now.
 pub returns-in-Err-clause-served : goal.returns-in-Err-clause-served
 returns-in-Err-clause-served g c =
     subst (λ (it : List (List ℕ)). StopsAt NoMemory g.L.Lines.machine it
-    (moment (g.L.Lines.state c.args.lines.now (g.F.Shelf.texts c.args.shelf.now) (g.F.Shelf.faults c.args.shelf.now)
-    (g.F.Shelf.calls c.args.shelf.now)) (g.K.Sink.written c.args.output.now) (g.K.Sink.faults c.args.output.now))
-    (moment (g.L.Lines.state c.args.lines.now (g.F.Shelf.texts c.args.shelf.now) (g.F.Shelf.faults c.args.shelf.now)
-    (g.F.Shelf.calls c.args.shelf.now)) (g.K.Sink.written c.args.output.now) (g.K.Sink.faults c.args.output.now)))
+    (moment (g.L.Lines.state c.args.lines.now (g.F.Shelf.state c.args.shelf.now)) (g.K.Sink.state c.args.output.now))
+    (moment (g.L.Lines.state c.args.lines.now (g.F.Shelf.state c.args.shelf.now)) (g.K.Sink.state c.args.output.now)))
     (sym (completes_none c.args.line.now.items c.args.byte c.if-byte-eq10.false)) (none_wanted g.L.Lines.machine _)
 
 pub returns-in-Ok-clause-begins : goal.returns-in-Ok-clause-begins

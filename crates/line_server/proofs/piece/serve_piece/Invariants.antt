@@ -8,11 +8,10 @@ use Rattle.line_server.proofs.piece.serve_piece.Given as goal
 abbrev pub invariant-loop-byte : goal.invariant-loop-byte
 invariant-loop-byte g l =
     HasServed g.L.Lines.machine l.initial.line.items
-    (moment (g.L.Lines.state l.initial.lines (g.F.Shelf.texts l.initial.shelf) (g.F.Shelf.faults l.initial.shelf)
-    (g.F.Shelf.calls l.initial.shelf)) (g.K.Sink.written l.initial.output) (g.K.Sink.faults l.initial.output))
+    (moment (g.L.Lines.state l.initial.lines (g.F.Shelf.state l.initial.shelf)) (g.K.Sink.state l.initial.output))
     (take l.byte-index l.piece)
-    (moment (g.L.Lines.state l.lines (g.F.Shelf.texts l.shelf) (g.F.Shelf.faults l.shelf) (g.F.Shelf.calls l.shelf))
-    (g.K.Sink.written l.output) (g.K.Sink.faults l.output)) false
+    (moment (g.L.Lines.state l.lines (g.F.Shelf.state l.shelf))
+    (g.K.Sink.state l.output)) false
     × (l.line.items ≡ unfinished l.initial.line.items (take l.byte-index l.piece))
     × All (λ byte. byte ≢ 10) l.line.items
     × (length l.line.items ≤ length l.initial.line.items + l.byte-index)

@@ -1,16 +1,14 @@
 use Rattle.std.proofs.Common.{◌≢◌, ℕ, List, length, ap, subst, ◌∙◌, arith}
 use Rattle.line_server.specs.Turn.{around, turning}
 use Rattle.line_server.specs.Session.{Turns, last_turn, one_turn}
-use Rattle.line_server.specs.Writing.{stream}
 use Rattle.line_server.proofs.TurnLemmas.{all_none}
 use Rattle.line_server.proofs.session.serve_turns.Goals as goal
 
 pub loop-count-init : goal.loop-count-init
 loop-count-init g c = (
   λ after end turns. subst (λ (it : List ℕ). Turns g.L.Lines.machine after end
-      (turning (around (g.L.Lines.state c.args.lines.now (g.F.Shelf.texts c.args.shelf.now) (g.F.Shelf.faults c.args.shelf.now)
-      (g.F.Shelf.calls c.args.shelf.now)) (stream (g.S.Source.left c.args.input.now) (g.S.Source.faults c.args.input.now))
-      (stream (g.K.Sink.written c.args.output.now) (g.K.Sink.faults c.args.output.now))) it 0)) c.new-line.ensures.items turns,
+      (turning (around (g.L.Lines.state c.args.lines.now (g.F.Shelf.state c.args.shelf.now)) (g.S.Source.state c.args.input.now)
+      (g.K.Sink.state c.args.output.now)) it 0)) c.new-line.ensures.items turns,
   all_none (λ byte. byte ≢ 10) c.new-line.result.items c.new-line.ensures.items,
   omega (arith, ap length c.new-line.ensures.items),
   omega arith,

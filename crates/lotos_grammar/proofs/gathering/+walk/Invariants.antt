@@ -4,7 +4,6 @@ use Rattle.syntax_trees.specs.TreeViews.{item_of, placed_names_of}
 use Rattle.lotos_grammar.specs.Gathering.{library_limit, item, mention}
 use Rattle.lotos_grammar.specs.GatheredView.{gathered_of}
 use Rattle.lotos_grammar.specs.Progress.{IsDone}
-use Rattle.lotos_grammar.specs.ShelfUse.{shelf_state}
 use Rattle.lotos_grammar.proofs.gathering.+walk.Given as goal
 
 -- another library may be read so many times, and each time one function calls the next
@@ -24,8 +23,7 @@ decreases-add_items g l = 4 * (library_limit - length l.so_far.now.libraries.ite
 abbrev pub invariant-add_items-loop-item : goal.invariant-add_items-loop-item
 invariant-add_items-loop-item g l =
     IsDone
-    (shelf_state (g.F.Shelf.texts l.fn.shelf) (g.F.Shelf.faults l.fn.shelf) (g.F.Shelf.calls l.fn.shelf))
-    (shelf_state (g.F.Shelf.texts l.shelf) (g.F.Shelf.faults l.shelf) (g.F.Shelf.calls l.shelf))
+    (g.F.Shelf.state l.fn.shelf) (g.F.Shelf.state l.shelf)
     (gathered_of l.fn.so_far) (map item (map item_of l.yielded)) (gathered_of l.so_far)
     × (length l.fn.so_far.libraries.items ≤ length l.so_far.libraries.items)
     × (l.yielded ++ into_iter_items l.item-iterator ≡ into_iter_items l.initial.item-iterator)
@@ -35,8 +33,7 @@ invariant-add_items-loop-item g l =
 abbrev pub invariant-add_libraries-loop-place : goal.invariant-add_libraries-loop-place
 invariant-add_libraries-loop-place g l =
     IsDone
-    (shelf_state (g.F.Shelf.texts l.fn.shelf) (g.F.Shelf.faults l.fn.shelf) (g.F.Shelf.calls l.fn.shelf))
-    (shelf_state (g.F.Shelf.texts l.shelf) (g.F.Shelf.faults l.shelf) (g.F.Shelf.calls l.shelf))
+    (g.F.Shelf.state l.fn.shelf) (g.F.Shelf.state l.shelf)
     (gathered_of l.fn.so_far) (map mention (placed_names_of l.yielded)) (gathered_of l.so_far)
     × (length l.fn.so_far.libraries.items ≤ length l.so_far.libraries.items)
     × (l.yielded ++ into_iter_items l.place-iterator ≡ into_iter_items l.initial.place-iterator)

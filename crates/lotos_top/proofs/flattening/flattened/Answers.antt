@@ -1,7 +1,7 @@
 use Rattle.std.proofs.Common.{◌≡◌, ℕ, List, Bor, Some, option_map}
 use Rattle.flat_text.specs.FlatText.{flat_text}
 use Rattle.sort_terms.specs.EquationView.{data_of}
-use Rattle.certificate_verbs.specs.HandedOn.{Founded, IsFounded, shelf_state, specification_of, Has, goes_on, flattening}
+use Rattle.certificate_verbs.specs.HandedOn.{Founded, IsFounded, specification_of, Has, goes_on, flattening}
 use Rattle.certificate_verbs.specs.Finishing.{prints}
 use Rattle.certificate_verbs.specs.Printed.{print_in, IsFaultPrinted}
 use Rattle.certificate_verbs.specs.declared.ended.Ended.TheVariants.{Done}
@@ -19,24 +19,16 @@ returns-in-Ok g c =
     (λ (alone : Alone). (alone.text.items ≡ flat_text (data_of c.in-Ok.known.book.flat) (specification_of c.in-Ok.known.spec))
     × (alone.ended ≡ Done))
     (IsReady (Some (flattening c.args.spec.now (option_map (λ (word : Bor (List ℕ)). word.now) c.args.order)))
-    (shelf_state (g.F.Shelf.texts c.args.shelf.now) (g.F.Shelf.faults c.args.shelf.now) (g.F.Shelf.calls c.args.shelf.now))
-    (shelf_state (g.F.Shelf.texts c.founded_under.new.shelf) (g.F.Shelf.faults c.founded_under.new.shelf)
-    (g.F.Shelf.calls c.founded_under.new.shelf)))
+    (g.F.Shelf.state c.args.shelf.now) (g.F.Shelf.state c.founded_under.new.shelf))
     (CameTo (Some (flattening c.args.spec.now (option_map (λ (word : Bor (List ℕ)). word.now) c.args.order)))
-    (shelf_state (g.F.Shelf.texts c.args.shelf.now) (g.F.Shelf.faults c.args.shelf.now) (g.F.Shelf.calls c.args.shelf.now))
-    (shelf_state (g.F.Shelf.texts c.founded_under.new.shelf) (g.F.Shelf.faults c.founded_under.new.shelf)
-    (g.F.Shelf.calls c.founded_under.new.shelf)))
+    (g.F.Shelf.state c.args.shelf.now) (g.F.Shelf.state c.founded_under.new.shelf))
     c.ready_alone.ensures c.flat_alone.ensures
     (λ alone is. flattened_ready c.args.spec.now (option_map (λ (word : Bor (List ℕ)). word.now) c.args.order)
-    (shelf_state (g.F.Shelf.texts c.args.shelf.now) (g.F.Shelf.faults c.args.shelf.now) (g.F.Shelf.calls c.args.shelf.now))
-    (shelf_state (g.F.Shelf.texts c.founded_under.new.shelf) (g.F.Shelf.faults c.founded_under.new.shelf)
-    (g.F.Shelf.calls c.founded_under.new.shelf))
+    (g.F.Shelf.state c.args.shelf.now) (g.F.Shelf.state c.founded_under.new.shelf)
     c.in-Ok.known alone c.in-Ok.ensures is.0 is.1) (
       goes_on (prints (flat_printed c.in-Ok.ensures.founded)),
       flattened_came c.args.spec.now (option_map (λ (word : Bor (List ℕ)). word.now) c.args.order)
-          (shelf_state (g.F.Shelf.texts c.args.shelf.now) (g.F.Shelf.faults c.args.shelf.now) (g.F.Shelf.calls c.args.shelf.now))
-          (shelf_state (g.F.Shelf.texts c.founded_under.new.shelf) (g.F.Shelf.faults c.founded_under.new.shelf)
-          (g.F.Shelf.calls c.founded_under.new.shelf))
+          (g.F.Shelf.state c.args.shelf.now) (g.F.Shelf.state c.founded_under.new.shelf)
           c.in-Ok.ensures.founded c.in-Ok.ensures.came,
     )
 
@@ -46,25 +38,17 @@ returns-in-Err g c =
     (λ (alone : Alone). IsFaultPrinted c.args.spec.now (option_map (λ (word : Bor (List ℕ)). word.now) c.args.order)
     c.in-Err.fault (print_in alone))
     (IsReady (Some (flattening c.args.spec.now (option_map (λ (word : Bor (List ℕ)). word.now) c.args.order)))
-    (shelf_state (g.F.Shelf.texts c.args.shelf.now) (g.F.Shelf.faults c.args.shelf.now) (g.F.Shelf.calls c.args.shelf.now))
-    (shelf_state (g.F.Shelf.texts c.founded_under.new.shelf) (g.F.Shelf.faults c.founded_under.new.shelf)
-    (g.F.Shelf.calls c.founded_under.new.shelf)))
+    (g.F.Shelf.state c.args.shelf.now) (g.F.Shelf.state c.founded_under.new.shelf))
     (CameTo (Some (flattening c.args.spec.now (option_map (λ (word : Bor (List ℕ)). word.now) c.args.order)))
-    (shelf_state (g.F.Shelf.texts c.args.shelf.now) (g.F.Shelf.faults c.args.shelf.now) (g.F.Shelf.calls c.args.shelf.now))
-    (shelf_state (g.F.Shelf.texts c.founded_under.new.shelf) (g.F.Shelf.faults c.founded_under.new.shelf)
-    (g.F.Shelf.calls c.founded_under.new.shelf)))
+    (g.F.Shelf.state c.args.shelf.now) (g.F.Shelf.state c.founded_under.new.shelf))
     c.ready_alone-in-Err.ensures c.failed_alone.ensures
     (λ alone is. fault_ready c.args.spec.now (option_map (λ (word : Bor (List ℕ)). word.now) c.args.order)
     (IsFounded c.args.spec.now (option_map (λ (word : Bor (List ℕ)). word.now) c.args.order))
     (λ (it : Founded). Has (prints (flat_printed it)))
-    (shelf_state (g.F.Shelf.texts c.args.shelf.now) (g.F.Shelf.faults c.args.shelf.now) (g.F.Shelf.calls c.args.shelf.now))
-    (shelf_state (g.F.Shelf.texts c.founded_under.new.shelf) (g.F.Shelf.faults c.founded_under.new.shelf)
-    (g.F.Shelf.calls c.founded_under.new.shelf))
+    (g.F.Shelf.state c.args.shelf.now) (g.F.Shelf.state c.founded_under.new.shelf)
     c.in-Err.fault (print_in alone) c.in-Err.ensures is)
     (fault_came c.args.spec.now (option_map (λ (word : Bor (List ℕ)). word.now) c.args.order)
     (IsFounded c.args.spec.now (option_map (λ (word : Bor (List ℕ)). word.now) c.args.order))
     (λ (it : Founded). Has (prints (flat_printed it)))
-    (shelf_state (g.F.Shelf.texts c.args.shelf.now) (g.F.Shelf.faults c.args.shelf.now) (g.F.Shelf.calls c.args.shelf.now))
-    (shelf_state (g.F.Shelf.texts c.founded_under.new.shelf) (g.F.Shelf.faults c.founded_under.new.shelf)
-    (g.F.Shelf.calls c.founded_under.new.shelf))
+    (g.F.Shelf.state c.args.shelf.now) (g.F.Shelf.state c.founded_under.new.shelf)
     c.in-Err.fault c.in-Err.ensures)

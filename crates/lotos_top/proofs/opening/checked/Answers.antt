@@ -1,5 +1,5 @@
 use Rattle.std.proofs.Common.{◌≡◌, ℕ, List, Bor, Some, option_map}
-use Rattle.certificate_verbs.specs.HandedOn.{IsAccepted, asked_acceptance, shelf_state, words_of, Has, goes_on, Beginning, check}
+use Rattle.certificate_verbs.specs.HandedOn.{IsAccepted, asked_acceptance, words_of, Has, goes_on, Beginning, check}
 use Rattle.certificate_verbs.specs.Printed.{print_in, IsFaultPrinted}
 use Rattle.certificate_verbs.specs.Finishing.{print, prints}
 use Rattle.certificate_verbs.specs.declared.ended.Ended.TheVariants.{Done}
@@ -20,23 +20,19 @@ returns-in-Ok g c =
     (λ (alone : Alone). (alone.text.items ≡ opening_text (begun c.in-Ok.opened)) × (alone.ended ≡ Done))
     (IsReady (Some (check (asked_acceptance c.args.spec.now (option_map (λ (word : Bor (List ℕ)). word.now) c.args.order)
     (words_of c.args.values.now))))
-    (shelf_state (g.F.Shelf.texts c.args.shelf.now) (g.F.Shelf.faults c.args.shelf.now) (g.F.Shelf.calls c.args.shelf.now))
-    (shelf_state (g.F.Shelf.texts c.open.new.shelf) (g.F.Shelf.faults c.open.new.shelf) (g.F.Shelf.calls c.open.new.shelf)))
+    (g.F.Shelf.state c.args.shelf.now) (g.F.Shelf.state c.open.new.shelf))
     (CameTo (Some (check (asked_acceptance c.args.spec.now (option_map (λ (word : Bor (List ℕ)). word.now) c.args.order)
     (words_of c.args.values.now))))
-    (shelf_state (g.F.Shelf.texts c.args.shelf.now) (g.F.Shelf.faults c.args.shelf.now) (g.F.Shelf.calls c.args.shelf.now))
-    (shelf_state (g.F.Shelf.texts c.open.new.shelf) (g.F.Shelf.faults c.open.new.shelf) (g.F.Shelf.calls c.open.new.shelf)))
+    (g.F.Shelf.state c.args.shelf.now) (g.F.Shelf.state c.open.new.shelf))
     c.ready_alone.ensures c.opened_alone.ensures
     (λ alone is. checked_ready (asked_acceptance c.args.spec.now (option_map (λ (word : Bor (List ℕ)). word.now) c.args.order)
     (words_of c.args.values.now))
-    (shelf_state (g.F.Shelf.texts c.args.shelf.now) (g.F.Shelf.faults c.args.shelf.now) (g.F.Shelf.calls c.args.shelf.now))
-    (shelf_state (g.F.Shelf.texts c.open.new.shelf) (g.F.Shelf.faults c.open.new.shelf) (g.F.Shelf.calls c.open.new.shelf))
+    (g.F.Shelf.state c.args.shelf.now) (g.F.Shelf.state c.open.new.shelf)
     c.in-Ok.opened alone c.in-Ok.ensures.0 is.0 is.1) (
       goes_on (prints (print (opening_text (begun c.in-Ok.opened)) Done)),
       checked_came (asked_acceptance c.args.spec.now (option_map (λ (word : Bor (List ℕ)). word.now) c.args.order)
           (words_of c.args.values.now))
-          (shelf_state (g.F.Shelf.texts c.args.shelf.now) (g.F.Shelf.faults c.args.shelf.now) (g.F.Shelf.calls c.args.shelf.now))
-          (shelf_state (g.F.Shelf.texts c.open.new.shelf) (g.F.Shelf.faults c.open.new.shelf) (g.F.Shelf.calls c.open.new.shelf))
+          (g.F.Shelf.state c.args.shelf.now) (g.F.Shelf.state c.open.new.shelf)
           (begun c.in-Ok.opened) c.in-Ok.ensures.0,
     )
 
@@ -47,24 +43,20 @@ returns-in-Err g c =
     c.in-Err.fault (print_in alone))
     (IsReady (Some (check (asked_acceptance c.args.spec.now (option_map (λ (word : Bor (List ℕ)). word.now) c.args.order)
     (words_of c.args.values.now))))
-    (shelf_state (g.F.Shelf.texts c.args.shelf.now) (g.F.Shelf.faults c.args.shelf.now) (g.F.Shelf.calls c.args.shelf.now))
-    (shelf_state (g.F.Shelf.texts c.open.new.shelf) (g.F.Shelf.faults c.open.new.shelf) (g.F.Shelf.calls c.open.new.shelf)))
+    (g.F.Shelf.state c.args.shelf.now) (g.F.Shelf.state c.open.new.shelf))
     (CameTo (Some (check (asked_acceptance c.args.spec.now (option_map (λ (word : Bor (List ℕ)). word.now) c.args.order)
     (words_of c.args.values.now))))
-    (shelf_state (g.F.Shelf.texts c.args.shelf.now) (g.F.Shelf.faults c.args.shelf.now) (g.F.Shelf.calls c.args.shelf.now))
-    (shelf_state (g.F.Shelf.texts c.open.new.shelf) (g.F.Shelf.faults c.open.new.shelf) (g.F.Shelf.calls c.open.new.shelf)))
+    (g.F.Shelf.state c.args.shelf.now) (g.F.Shelf.state c.open.new.shelf))
     c.ready_alone-in-Err.ensures c.failed_alone.ensures
     (λ alone is. fault_ready c.args.spec.now (option_map (λ (word : Bor (List ℕ)). word.now) c.args.order)
     (OpensSession (IsAccepted (asked_acceptance c.args.spec.now (option_map (λ (word : Bor (List ℕ)). word.now) c.args.order)
     (words_of c.args.values.now))))
     (λ (it : Beginning). Has (prints (print (opening_text it) Done)))
-    (shelf_state (g.F.Shelf.texts c.args.shelf.now) (g.F.Shelf.faults c.args.shelf.now) (g.F.Shelf.calls c.args.shelf.now))
-    (shelf_state (g.F.Shelf.texts c.open.new.shelf) (g.F.Shelf.faults c.open.new.shelf) (g.F.Shelf.calls c.open.new.shelf))
+    (g.F.Shelf.state c.args.shelf.now) (g.F.Shelf.state c.open.new.shelf)
     c.in-Err.fault (print_in alone) c.in-Err.ensures is)
     (fault_came c.args.spec.now (option_map (λ (word : Bor (List ℕ)). word.now) c.args.order)
     (OpensSession (IsAccepted (asked_acceptance c.args.spec.now (option_map (λ (word : Bor (List ℕ)). word.now) c.args.order)
     (words_of c.args.values.now))))
     (λ (it : Beginning). Has (prints (print (opening_text it) Done)))
-    (shelf_state (g.F.Shelf.texts c.args.shelf.now) (g.F.Shelf.faults c.args.shelf.now) (g.F.Shelf.calls c.args.shelf.now))
-    (shelf_state (g.F.Shelf.texts c.open.new.shelf) (g.F.Shelf.faults c.open.new.shelf) (g.F.Shelf.calls c.open.new.shelf))
+    (g.F.Shelf.state c.args.shelf.now) (g.F.Shelf.state c.open.new.shelf)
     c.in-Err.fault c.in-Err.ensures)

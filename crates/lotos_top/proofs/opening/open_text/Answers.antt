@@ -1,6 +1,6 @@
-use Rattle.std.proofs.Common.{[], None, Some, refl}
-use Rattle.lotos_base.specs.MemShelf.{texts_of, faults_of, calls_of}
-use Rattle.certificate_verbs.specs.HandedOn.{shelf_state, AcceptsText, NoMemory}
+use Rattle.std.proofs.Common.{[], None, refl}
+use Rattle.lotos_base.specs.MemShelf.{shelf_state}
+use Rattle.certificate_verbs.specs.HandedOn.{AcceptsText, NoMemory}
 use Rattle.certificate_verbs.proofs.HandedOn.{err_out}
 use Rattle.lotos_top.specs.Prepared.{begun}
 use Rattle.lotos_top.specs.Parts.{OpensSession}
@@ -16,12 +16,10 @@ begin-requires c = record { known = (c.in_ok-accepted.ensures.0, c.in_ok-accepte
 pub returns-in_err-accepted : goal.returns-in_err-accepted
 returns-in_err-accepted c =
     err_out _ c.in_err-accepted.field-0.0 _ _ c.from_residual.ensures.1
-    (alone_failed (shelf_state (Some (texts_of c.new-no_files.result)) (faults_of c.new-no_files.result) (calls_of c.new-no_files.result))
-    (shelf_state (Some (texts_of c.of_text.new.shelf)) (faults_of c.of_text.new.shelf) (calls_of c.of_text.new.shelf))
+    (alone_failed (shelf_state c.new-no_files.result) (shelf_state c.of_text.new.shelf)
     (OpensSession (AcceptsText c.args.text.now None [])) c.in_err-accepted.field-0.0
     (no_files c.new-no_files.result c.new.result.items c.new-no_files.ensures.texts c.new.ensures.items)
-    (open_failed (shelf_state (Some (texts_of c.new-no_files.result)) (faults_of c.new-no_files.result) (calls_of c.new-no_files.result))
-    (shelf_state (Some (texts_of c.of_text.new.shelf)) (faults_of c.of_text.new.shelf) (calls_of c.of_text.new.shelf))
+    (open_failed (shelf_state c.new-no_files.result) (shelf_state c.of_text.new.shelf)
     (AcceptsText c.args.text.now None []) c.in_err-accepted.field-0.0 c.in_err-accepted.ensures))
 
 pub returns-in_err-begin : goal.returns-in_err-begin
@@ -30,12 +28,10 @@ returns-in_err-begin c = err_out _ NoMemory _ _ c.from_residual-in_err-begin.ens
 pub returns : goal.returns
 returns c =
     let opened = c.in_ok-begin.ensures c.in_ok-accepted.ensures.0 c.in_ok-accepted.ensures.2 in (
-      alone_on (shelf_state (Some (texts_of c.new-no_files.result)) (faults_of c.new-no_files.result) (calls_of c.new-no_files.result))
-          (shelf_state (Some (texts_of c.of_text.new.shelf)) (faults_of c.of_text.new.shelf) (calls_of c.of_text.new.shelf))
+      alone_on (shelf_state c.new-no_files.result) (shelf_state c.of_text.new.shelf)
           (OpensSession (AcceptsText c.args.text.now None [])) (begun c.in_ok-begin.field-0)
           (no_files c.new-no_files.result c.new.result.items c.new-no_files.ensures.texts c.new.ensures.items)
-          (did_open (shelf_state (Some (texts_of c.new-no_files.result)) (faults_of c.new-no_files.result) (calls_of c.new-no_files.result))
-          (shelf_state (Some (texts_of c.of_text.new.shelf)) (faults_of c.of_text.new.shelf) (calls_of c.of_text.new.shelf))
+          (did_open (shelf_state c.new-no_files.result) (shelf_state c.of_text.new.shelf)
           (AcceptsText c.args.text.now None []) c.in_ok-accepted.ensures.0
           (begun c.in_ok-begin.field-0) c.in_ok-accepted.ensures.1 opened.0),
       opened.1,

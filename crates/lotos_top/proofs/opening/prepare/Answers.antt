@@ -1,5 +1,5 @@
 use Rattle.std.proofs.Common.{Option, Some, MatchResult, sym, ap, subst, ◌∙◌}
-use Rattle.certificate_verbs.specs.HandedOn.{shelf_state, words_of, CommandLine, command_line, command_line_of, Command}
+use Rattle.certificate_verbs.specs.HandedOn.{words_of, CommandLine, command_line, command_line_of, Command}
 use Rattle.certificate_verbs.proofs.HandedOn.{values_within}
 use Rattle.lotos_top.specs.Prepared.{CameTo, IsReady}
 use Rattle.lotos_top.proofs.opening.prepare.Goals as goal
@@ -17,71 +17,52 @@ served-requires g c =
 pub returns-in-Some-Check : goal.returns-in-Some-Check
 returns-in-Some-Check g c =
     subst (λ (line : Option CommandLine). MatchResult c.checked.result
-    (IsReady line (shelf_state (g.F.Shelf.texts c.args.shelf.now) (g.F.Shelf.faults c.args.shelf.now) (g.F.Shelf.calls c.args.shelf.now))
-    (shelf_state (g.F.Shelf.texts c.checked.new.shelf) (g.F.Shelf.faults c.checked.new.shelf) (g.F.Shelf.calls c.checked.new.shelf)))
-    (λ _. CameTo line (shelf_state (g.F.Shelf.texts c.args.shelf.now) (g.F.Shelf.faults c.args.shelf.now)
-    (g.F.Shelf.calls c.args.shelf.now))
-    (shelf_state (g.F.Shelf.texts c.checked.new.shelf) (g.F.Shelf.faults c.checked.new.shelf) (g.F.Shelf.calls c.checked.new.shelf))))
+    (IsReady line (g.F.Shelf.state c.args.shelf.now) (g.F.Shelf.state c.checked.new.shelf))
+    (λ _. CameTo line (g.F.Shelf.state c.args.shelf.now) (g.F.Shelf.state c.checked.new.shelf)))
     (sym (c.in-Some-Check.ensures ∙ ap (λ (command : Command). Some (command_line_of command)) c.in-Some-Check.field-0-is))
     c.checked.ensures
 
 pub returns-in-Some-Run : goal.returns-in-Some-Run
 returns-in-Some-Run g c =
     subst (λ (line : Option CommandLine). MatchResult c.served.result
-    (IsReady line (shelf_state (g.F.Shelf.texts c.args.shelf.now) (g.F.Shelf.faults c.args.shelf.now) (g.F.Shelf.calls c.args.shelf.now))
-    (shelf_state (g.F.Shelf.texts c.served.new.shelf) (g.F.Shelf.faults c.served.new.shelf) (g.F.Shelf.calls c.served.new.shelf)))
-    (λ _. CameTo line (shelf_state (g.F.Shelf.texts c.args.shelf.now) (g.F.Shelf.faults c.args.shelf.now)
-    (g.F.Shelf.calls c.args.shelf.now))
-    (shelf_state (g.F.Shelf.texts c.served.new.shelf) (g.F.Shelf.faults c.served.new.shelf) (g.F.Shelf.calls c.served.new.shelf))))
+    (IsReady line (g.F.Shelf.state c.args.shelf.now) (g.F.Shelf.state c.served.new.shelf))
+    (λ _. CameTo line (g.F.Shelf.state c.args.shelf.now) (g.F.Shelf.state c.served.new.shelf)))
     (sym (c.in-Some-Run.ensures ∙ ap (λ (command : Command). Some (command_line_of command)) c.in-Some-Run.field-0-is))
     c.served.ensures
 
 pub returns-in-Some-Demo : goal.returns-in-Some-Demo
 returns-in-Some-Demo g c =
     subst (λ (line : Option CommandLine). MatchResult c.demonstrated.result
-    (IsReady line (shelf_state (g.F.Shelf.texts c.args.shelf.now) (g.F.Shelf.faults c.args.shelf.now) (g.F.Shelf.calls c.args.shelf.now))
-    (shelf_state (g.F.Shelf.texts c.args.shelf.now) (g.F.Shelf.faults c.args.shelf.now) (g.F.Shelf.calls c.args.shelf.now)))
-    (λ _. CameTo line (shelf_state (g.F.Shelf.texts c.args.shelf.now) (g.F.Shelf.faults c.args.shelf.now)
-    (g.F.Shelf.calls c.args.shelf.now))
-    (shelf_state (g.F.Shelf.texts c.args.shelf.now) (g.F.Shelf.faults c.args.shelf.now) (g.F.Shelf.calls c.args.shelf.now))))
+    (IsReady line (g.F.Shelf.state c.args.shelf.now) (g.F.Shelf.state c.args.shelf.now))
+    (λ _. CameTo line (g.F.Shelf.state c.args.shelf.now) (g.F.Shelf.state c.args.shelf.now)))
     (sym (c.in-Some-Demo.ensures ∙ ap (λ (command : Command). Some (command_line_of command)) c.in-Some-Demo.field-0-is))
-    (c.demonstrated.ensures (shelf_state (g.F.Shelf.texts c.args.shelf.now) (g.F.Shelf.faults c.args.shelf.now)
-    (g.F.Shelf.calls c.args.shelf.now)))
+    (c.demonstrated.ensures (g.F.Shelf.state c.args.shelf.now))
 
 pub returns-in-Some-Flatten : goal.returns-in-Some-Flatten
 returns-in-Some-Flatten g c =
     subst (λ (line : Option CommandLine). MatchResult c.flattened.result
-    (IsReady line (shelf_state (g.F.Shelf.texts c.args.shelf.now) (g.F.Shelf.faults c.args.shelf.now) (g.F.Shelf.calls c.args.shelf.now))
-    (shelf_state (g.F.Shelf.texts c.flattened.new.shelf) (g.F.Shelf.faults c.flattened.new.shelf) (g.F.Shelf.calls c.flattened.new.shelf)))
-    (λ _. CameTo line (shelf_state (g.F.Shelf.texts c.args.shelf.now) (g.F.Shelf.faults c.args.shelf.now)
-    (g.F.Shelf.calls c.args.shelf.now))
-    (shelf_state (g.F.Shelf.texts c.flattened.new.shelf) (g.F.Shelf.faults c.flattened.new.shelf) (g.F.Shelf.calls c.flattened.new.shelf))))
+    (IsReady line (g.F.Shelf.state c.args.shelf.now) (g.F.Shelf.state c.flattened.new.shelf))
+    (λ _. CameTo line (g.F.Shelf.state c.args.shelf.now) (g.F.Shelf.state c.flattened.new.shelf)))
     (sym (c.in-Some-Flatten.ensures ∙ ap (λ (command : Command). Some (command_line_of command)) c.in-Some-Flatten.field-0-is))
     c.flattened.ensures
 
 pub returns-in-Some-Bisim : goal.returns-in-Some-Bisim
 returns-in-Some-Bisim g c =
     subst (λ (line : Option CommandLine). MatchResult c.compared.result
-    (IsReady line (shelf_state (g.F.Shelf.texts c.args.shelf.now) (g.F.Shelf.faults c.args.shelf.now) (g.F.Shelf.calls c.args.shelf.now))
-    (shelf_state (g.F.Shelf.texts c.compared.new.shelf) (g.F.Shelf.faults c.compared.new.shelf) (g.F.Shelf.calls c.compared.new.shelf)))
-    (λ _. CameTo line (shelf_state (g.F.Shelf.texts c.args.shelf.now) (g.F.Shelf.faults c.args.shelf.now)
-    (g.F.Shelf.calls c.args.shelf.now))
-    (shelf_state (g.F.Shelf.texts c.compared.new.shelf) (g.F.Shelf.faults c.compared.new.shelf) (g.F.Shelf.calls c.compared.new.shelf))))
+    (IsReady line (g.F.Shelf.state c.args.shelf.now) (g.F.Shelf.state c.compared.new.shelf))
+    (λ _. CameTo line (g.F.Shelf.state c.args.shelf.now) (g.F.Shelf.state c.compared.new.shelf)))
     (sym (c.in-Some-Bisim.ensures ∙ ap (λ (command : Command). Some (command_line_of command)) c.in-Some-Bisim.field-0-is))
     c.compared.ensures
 
 pub returns-in-Some-Induct : goal.returns-in-Some-Induct
 returns-in-Some-Induct g c =
     subst (λ (line : Option CommandLine). MatchResult c.induced.result
-    (IsReady line (shelf_state (g.F.Shelf.texts c.args.shelf.now) (g.F.Shelf.faults c.args.shelf.now) (g.F.Shelf.calls c.args.shelf.now))
-    (shelf_state (g.F.Shelf.texts c.induced.new.shelf) (g.F.Shelf.faults c.induced.new.shelf) (g.F.Shelf.calls c.induced.new.shelf)))
-    (λ _. CameTo line (shelf_state (g.F.Shelf.texts c.args.shelf.now) (g.F.Shelf.faults c.args.shelf.now)
-    (g.F.Shelf.calls c.args.shelf.now))
-    (shelf_state (g.F.Shelf.texts c.induced.new.shelf) (g.F.Shelf.faults c.induced.new.shelf) (g.F.Shelf.calls c.induced.new.shelf))))
+    (IsReady line (g.F.Shelf.state c.args.shelf.now) (g.F.Shelf.state c.induced.new.shelf))
+    (λ _. CameTo line (g.F.Shelf.state c.args.shelf.now) (g.F.Shelf.state c.induced.new.shelf)))
     (sym (c.in-Some-Induct.ensures ∙ ap (λ (command : Command). Some (command_line_of command)) c.in-Some-Induct.field-0-is))
     c.induced.ensures
 
 pub returns-in-None : goal.returns-in-None
 returns-in-None g c = c.usage_ready.ensures (command_line (words_of c.args.words.now))
-    (shelf_state (g.F.Shelf.texts c.args.shelf.now) (g.F.Shelf.faults c.args.shelf.now) (g.F.Shelf.calls c.args.shelf.now))
+    (g.F.Shelf.state c.args.shelf.now)
     c.in-None.ensures

@@ -1,5 +1,5 @@
 use Rattle.std.proofs.Common.{ℕ, List, Bor, Some, option_map}
-use Rattle.certificate_verbs.specs.HandedOn.{IsAccepted, asked_acceptance, shelf_state, words_of, Has, Beginning, session}
+use Rattle.certificate_verbs.specs.HandedOn.{IsAccepted, asked_acceptance, words_of, Has, Beginning, session}
 use Rattle.certificate_verbs.specs.Printed.{print_in, IsFaultPrinted}
 use Rattle.certificate_verbs.specs.Finishing.{serves}
 use Rattle.certificate_verbs.specs.declared.printing.Alone.{Alone}
@@ -15,8 +15,7 @@ open-requires g c = c.requires
 pub returns-in-Ok : goal.returns-in-Ok
 returns-in-Ok g c = (
   session_came (asked_acceptance c.args.spec.now (option_map (λ (word : Bor (List ℕ)). word.now) c.args.order) (words_of c.args.values.now))
-      (shelf_state (g.F.Shelf.texts c.args.shelf.now) (g.F.Shelf.faults c.args.shelf.now) (g.F.Shelf.calls c.args.shelf.now))
-      (shelf_state (g.F.Shelf.texts c.open.new.shelf) (g.F.Shelf.faults c.open.new.shelf) (g.F.Shelf.calls c.open.new.shelf))
+      (g.F.Shelf.state c.args.shelf.now) (g.F.Shelf.state c.open.new.shelf)
       (begun c.in-Ok.opened) c.in-Ok.ensures.0,
   c.in-Ok.ensures.1,
 )
@@ -28,24 +27,20 @@ returns-in-Err g c =
     c.in-Err.fault (print_in alone))
     (IsReady (Some (session (asked_acceptance c.args.spec.now (option_map (λ (word : Bor (List ℕ)). word.now) c.args.order)
     (words_of c.args.values.now))))
-    (shelf_state (g.F.Shelf.texts c.args.shelf.now) (g.F.Shelf.faults c.args.shelf.now) (g.F.Shelf.calls c.args.shelf.now))
-    (shelf_state (g.F.Shelf.texts c.open.new.shelf) (g.F.Shelf.faults c.open.new.shelf) (g.F.Shelf.calls c.open.new.shelf)))
+    (g.F.Shelf.state c.args.shelf.now) (g.F.Shelf.state c.open.new.shelf))
     (CameTo (Some (session (asked_acceptance c.args.spec.now (option_map (λ (word : Bor (List ℕ)). word.now) c.args.order)
     (words_of c.args.values.now))))
-    (shelf_state (g.F.Shelf.texts c.args.shelf.now) (g.F.Shelf.faults c.args.shelf.now) (g.F.Shelf.calls c.args.shelf.now))
-    (shelf_state (g.F.Shelf.texts c.open.new.shelf) (g.F.Shelf.faults c.open.new.shelf) (g.F.Shelf.calls c.open.new.shelf)))
+    (g.F.Shelf.state c.args.shelf.now) (g.F.Shelf.state c.open.new.shelf))
     c.ready_alone.ensures c.failed_alone.ensures
     (λ alone is. fault_ready c.args.spec.now (option_map (λ (word : Bor (List ℕ)). word.now) c.args.order)
     (OpensSession (IsAccepted (asked_acceptance c.args.spec.now (option_map (λ (word : Bor (List ℕ)). word.now) c.args.order)
     (words_of c.args.values.now))))
     (λ (it : Beginning). Has (serves it))
-    (shelf_state (g.F.Shelf.texts c.args.shelf.now) (g.F.Shelf.faults c.args.shelf.now) (g.F.Shelf.calls c.args.shelf.now))
-    (shelf_state (g.F.Shelf.texts c.open.new.shelf) (g.F.Shelf.faults c.open.new.shelf) (g.F.Shelf.calls c.open.new.shelf))
+    (g.F.Shelf.state c.args.shelf.now) (g.F.Shelf.state c.open.new.shelf)
     c.in-Err.fault (print_in alone) c.in-Err.ensures is)
     (fault_came c.args.spec.now (option_map (λ (word : Bor (List ℕ)). word.now) c.args.order)
     (OpensSession (IsAccepted (asked_acceptance c.args.spec.now (option_map (λ (word : Bor (List ℕ)). word.now) c.args.order)
     (words_of c.args.values.now))))
     (λ (it : Beginning). Has (serves it))
-    (shelf_state (g.F.Shelf.texts c.args.shelf.now) (g.F.Shelf.faults c.args.shelf.now) (g.F.Shelf.calls c.args.shelf.now))
-    (shelf_state (g.F.Shelf.texts c.open.new.shelf) (g.F.Shelf.faults c.open.new.shelf) (g.F.Shelf.calls c.open.new.shelf))
+    (g.F.Shelf.state c.args.shelf.now) (g.F.Shelf.state c.open.new.shelf)
     c.in-Err.fault c.in-Err.ensures)

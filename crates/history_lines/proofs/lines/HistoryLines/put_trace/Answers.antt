@@ -10,14 +10,15 @@ use Rattle.history_lines.proofs.lines.HistoryLines.put_trace.Goals as goal
 
 pub returns-in-Ok-clause-answered : goal.returns-in-Ok-clause-answered
 returns-in-Ok-clause-answered g c =
-    let before = standing_of c.args.self.now (g.F.Shelf.texts c.args.shelf.now) in
-    let faults = g.F.Shelf.faults c.args.shelf.now in
-    let texts = g.F.Shelf.texts c.put.new.self in
+    let before = standing_of c.args.self.now (g.F.Shelf.state c.args.shelf.now).texts in
+    let faults = (g.F.Shelf.state c.args.shelf.now).faults in
+    let texts = (g.F.Shelf.state c.put.new.self).texts in
     let after = standing_of c.args.self.now texts in
-    let faults_after = g.F.Shelf.faults c.put.new.self in
+    let faults_after = (g.F.Shelf.state c.put.new.self).faults in
     let name = c.args.name.now in
     let short = subst (λ (it : List ℕ). length it ≤ trace_limit) c.requires.trace c.requires.short in
-    let put = subst (λ (it : List ℕ). HasPut (g.F.Shelf.texts c.args.shelf.now) texts name it) c.requires.trace c.in-Ok.ensures.leaves in
+    let put = subst (λ (it : List ℕ). HasPut (g.F.Shelf.state c.args.shelf.now).texts texts name it) c.requires.trace
+    c.in-Ok.ensures.leaves in
     either_way c.name_line.result (λ line. line.items ≡ codes "saved " ++ name ++ codes "\n")
     (λ line. GivesAnswer (moment_of before faults) (save name) line.items (moment_of after faults_after))
     (λ _. IsBeforeOrBehind (moment_of before faults) (save name) (moment_of after faults_after))
@@ -27,11 +28,11 @@ returns-in-Ok-clause-answered g c =
 
 pub returns-in-Err-Failed-clause-answered : goal.returns-in-Err-Failed-clause-answered
 returns-in-Err-Failed-clause-answered g c =
-    let before = standing_of c.args.self.now (g.F.Shelf.texts c.args.shelf.now) in
-    let faults = g.F.Shelf.faults c.args.shelf.now in
-    let texts = g.F.Shelf.texts c.put.new.self in
+    let before = standing_of c.args.self.now (g.F.Shelf.state c.args.shelf.now).texts in
+    let faults = (g.F.Shelf.state c.args.shelf.now).faults in
+    let texts = (g.F.Shelf.state c.put.new.self).texts in
     let after = standing_of c.args.self.now texts in
-    let faults_after = g.F.Shelf.faults c.put.new.self in
+    let faults_after = (g.F.Shelf.state c.put.new.self).faults in
     let name = c.args.name.now in
     let short = subst (λ (it : List ℕ). length it ≤ trace_limit) c.requires.trace c.requires.short in
     either_way c.name_line-in-Err-Failed.result (λ line. line.items ≡ codes "refused 808 Unwritten " ++ name ++ codes "\n")
@@ -53,7 +54,8 @@ returns-in-Err-Failed-clause-answered g c =
 
 pub returns-in-Err-NoMemory-clause-answered : goal.returns-in-Err-NoMemory-clause-answered
 returns-in-Err-NoMemory-clause-answered g c =
-    let before = standing_of c.args.self.now (g.F.Shelf.texts c.args.shelf.now) in
-    inl (as_before_put before (g.F.Shelf.texts c.put.new.self) (g.F.Shelf.faults c.args.shelf.now) (g.F.Shelf.faults c.put.new.self)
+    let before = standing_of c.args.self.now (g.F.Shelf.state c.args.shelf.now).texts in
+    inl (as_before_put before (g.F.Shelf.state c.put.new.self).texts (g.F.Shelf.state c.args.shelf.now).faults
+    (g.F.Shelf.state c.put.new.self).faults
     (rw c.in-Err-NoMemory.field-0-is at c.in-Err-NoMemory.ensures.leaves)
     (rw c.in-Err-NoMemory.field-0-is at c.in-Err-NoMemory.ensures.counts))

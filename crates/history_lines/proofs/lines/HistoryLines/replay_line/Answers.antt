@@ -12,10 +12,10 @@ use Rattle.history_lines.proofs.lines.HistoryLines.replay_line.Goals as goal
 pub returns-in-Ok-clause-answered : goal.returns-in-Ok-clause-answered
 returns-in-Ok-clause-answered g c =
     let lines = c.replay_got.new.self in
-    let texts = g.F.Shelf.texts c.args.shelf.now in
-    let faults = g.F.Shelf.faults c.args.shelf.now in
-    let texts_after = g.F.Shelf.texts c.get.new.self in
-    let faults_after = g.F.Shelf.faults c.get.new.self in
+    let texts = (g.F.Shelf.state c.args.shelf.now).texts in
+    let faults = (g.F.Shelf.state c.args.shelf.now).faults in
+    let texts_after = (g.F.Shelf.state c.get.new.self).texts in
+    let faults_after = (g.F.Shelf.state c.get.new.self).faults in
     at_moment c.replay_got.result (moment_of (standing_of c.args.self.now texts) faults) (moment_of (standing_of lines texts) faults)
     (moment_of (standing_of lines texts_after) faults_after) (λ line. line.items) (replay c.args.name.now)
     (same_moment (standing_of lines texts_after) (standing_of lines texts) faults_after faults
@@ -26,10 +26,10 @@ returns-in-Ok-clause-answered g c =
 
 pub returns-in-Err-Missing-clause-answered : goal.returns-in-Err-Missing-clause-answered
 returns-in-Err-Missing-clause-answered g c =
-    let before = standing_of c.args.self.now (g.F.Shelf.texts c.args.shelf.now) in
-    let after = standing_of c.args.self.now (g.F.Shelf.texts c.get.new.self) in
-    let faults = g.F.Shelf.faults c.args.shelf.now in
-    let faults_after = g.F.Shelf.faults c.get.new.self in
+    let before = standing_of c.args.self.now (g.F.Shelf.state c.args.shelf.now).texts in
+    let after = standing_of c.args.self.now (g.F.Shelf.state c.get.new.self).texts in
+    let faults = (g.F.Shelf.state c.args.shelf.now).faults in
+    let faults_after = (g.F.Shelf.state c.get.new.self).faults in
     let name = c.args.name.now in
     let same : after ≡ before = ap (λ (it : Option Texts). standing_of c.args.self.now it) c.in-Err-Missing.ensures.texts in
     let missing = rw c.in-Err-Missing.field-0-is at c.in-Err-Missing.ensures.answers in
@@ -43,10 +43,10 @@ returns-in-Err-Missing-clause-answered g c =
 
 pub returns-in-Err-Failed-clause-answered : goal.returns-in-Err-Failed-clause-answered
 returns-in-Err-Failed-clause-answered g c =
-    let before = standing_of c.args.self.now (g.F.Shelf.texts c.args.shelf.now) in
-    let after = standing_of c.args.self.now (g.F.Shelf.texts c.get.new.self) in
-    let faults = g.F.Shelf.faults c.args.shelf.now in
-    let faults_after = g.F.Shelf.faults c.get.new.self in
+    let before = standing_of c.args.self.now (g.F.Shelf.state c.args.shelf.now).texts in
+    let after = standing_of c.args.self.now (g.F.Shelf.state c.get.new.self).texts in
+    let faults = (g.F.Shelf.state c.args.shelf.now).faults in
+    let faults_after = (g.F.Shelf.state c.get.new.self).faults in
     let name = c.args.name.now in
     let same : after ≡ before = ap (λ (it : Option Texts). standing_of c.args.self.now it) c.in-Err-Failed.ensures.texts in
     let rises = rw c.in-Err-Failed.field-0-is at c.in-Err-Failed.ensures.counts in

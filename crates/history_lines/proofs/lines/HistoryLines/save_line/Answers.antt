@@ -11,15 +11,15 @@ use Rattle.history_lines.proofs.lines.HistoryLines.save_line.Goals as goal
 
 pub returns-in-Ok-clause-called : goal.returns-in-Ok-clause-called
 returns-in-Ok-clause-called g c =
-    calls_alike c.put_trace.result (standing_of c.args.self.now (g.F.Shelf.texts c.args.shelf.now)) (save c.args.name.now) _ _
+    calls_alike c.put_trace.result (standing_of c.args.self.now (g.F.Shelf.state c.args.shelf.now).texts) (save c.args.name.now) _ _
     (inr (subst (λ (it : List ℕ). length it ≤ trace_limit) c.in-Ok.ensures.0 c.in-Ok.ensures.1, c.put_trace.ensures.called))
     (inr c.put_trace.ensures.called)
 
 pub returns-in-Err-TooLong-clause-answered : goal.returns-in-Err-TooLong-clause-answered
 returns-in-Err-TooLong-clause-answered g c =
     let lines = c.args.self.now in
-    let before = standing_of lines (g.F.Shelf.texts c.args.shelf.now) in
-    let faults = g.F.Shelf.faults c.args.shelf.now in
+    let before = standing_of lines (g.F.Shelf.state c.args.shelf.now).texts in
+    let faults = (g.F.Shelf.state c.args.shelf.now).faults in
     let name = c.args.name.now in
     let long : trace_limit < length (shown_trace (basis_of lines) (reached lines)) =
     (rw c.in-Err-TooLong.field-0-is at c.in-Err-TooLong.ensures) in
@@ -35,7 +35,7 @@ returns-in-Err-TooLong-clause-called g c =
     let lines = c.args.self.now in
     let long : trace_limit < length (shown_trace (basis_of lines) (reached lines)) =
     (rw c.in-Err-TooLong.field-0-is at c.in-Err-TooLong.ensures) in
-    calls_alike c.name_line.result (standing_of lines (g.F.Shelf.texts c.args.shelf.now)) (save c.args.name.now) _ _
+    calls_alike c.name_line.result (standing_of lines (g.F.Shelf.state c.args.shelf.now).texts) (save c.args.name.now) _ _
     (inl (long, refl)) (inl refl)
 
 pub returns-in-Err-NoMemory-clause-answered : goal.returns-in-Err-NoMemory-clause-answered

@@ -10,9 +10,8 @@ serve-requires-clause-short g c = omega (arith, c.requires.plain.short)
 pub returns-clause-served : goal.returns-clause-served
 returns-clause-served g c =
     serves_line
-    (point_of c.args.self.now (g.F.Shelf.texts c.args.shelf.now) (g.F.Shelf.faults c.args.shelf.now) (g.F.Shelf.calls c.args.shelf.now))
-    (point_of c.serve.new.lines (g.F.Shelf.texts c.serve.new.shelf) (g.F.Shelf.faults c.serve.new.shelf)
-    (g.F.Shelf.calls c.serve.new.shelf)) c.args.line.now c.new-text.result.items _ c.in_ok-served.served
+    (point_of c.args.self.now (g.F.Shelf.state c.args.shelf.now))
+    (point_of c.serve.new.lines (g.F.Shelf.state c.serve.new.shelf)) c.args.line.now c.new-text.result.items _ c.in_ok-served.served
     c.new-text.ensures.items c.in_ok-served.ensures.answered c.ends.ensures
 
 pub returns-in_err-served-clause-served : goal.returns-in_err-served-clause-served

@@ -1,0 +1,14 @@
+use Rattle.std.proofs.Common.{None}
+use Rattle.lotos_base.proofs.memory_source.MemSourceSource.read.Goals as goal
+
+pub returns-then-is_listed-clause-counted : goal.returns-then-is_listed-clause-counted
+returns-then-is_listed-clause-counted c = c.failed.ensures.counted _ _
+
+pub returns-then-is_listed-clause-calls : goal.returns-then-is_listed-clause-calls
+returns-then-is_listed-clause-calls c = (c.failed.ensures.counted None None).calls
+
+pub returns-clause-counted : goal.returns-clause-counted
+returns-clause-counted c = c.moved_by.ensures.counted _ _
+
+pub returns-clause-calls : goal.returns-clause-calls
+returns-clause-calls c = (c.moved_by.ensures.counted None None).call.calls
