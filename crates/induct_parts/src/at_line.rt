@@ -2,7 +2,7 @@
 
 use crate::line_fault::LineFault;
 use lotos_base::NoMemory;
-use std::alloc::{AllocError, AllocFailed};
+use std::alloc::AllocFailed;
 
 /// A fault with the number of the line where it stands. The number says nothing where memory was
 /// wanted.
@@ -23,22 +23,6 @@ impl From<NoMemory> for AtLine {
     ghost from_gives = { λ _ at. at.fault ≡ out_of_memory };
 
     fn from(_fault: NoMemory) -> AtLine {
-        AtLine {
-            line: 0,
-            fault: LineFault::NoMemory,
-        }
-    }
-}
-
-impl From<AllocError> for AtLine {
-    ghost use Rattle.std.specs.Prelude.{◌≡◌};
-    ghost use Rattle.induct_parts.specs.declared.line_fault.LineFault.TheVariants.{
-      NoMemory as out_of_memory,
-    };
-
-    ghost from_gives = { λ _ at. at.fault ≡ out_of_memory };
-
-    fn from(_fault: AllocError) -> AtLine {
         AtLine {
             line: 0,
             fault: LineFault::NoMemory,

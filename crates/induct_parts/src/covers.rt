@@ -57,10 +57,9 @@ pub fn check_covers(signature: &Signature, covers: &[Cover]) -> Result<(), AtLin
 {
     for number in 0..covers.len() {
         if !is_right(signature, &covers[..number], &covers[number]) {
-            return Err(AtLine {
-                line: number + 1,
-                fault: LineFault::BadLine,
-            });
+            let line = number + 1;
+            let fault = LineFault::BadLine;
+            return Err(AtLine { line, fault });
         }
     }
     Ok(())
@@ -80,8 +79,8 @@ fn is_right(signature: &Signature, earlier: &[Cover], cover: &Cover) -> bool
     differ(cover.operations.as_slice())
 }
 
-// Whether each of the operations has the sort as result.
-fn have_result(signature: &Signature, operations: &[u32], sort: u32) -> bool
+/// Whether each of the operations has the sort as result.
+pub fn have_result(signature: &Signature, operations: &[u32], sort: u32) -> bool
     ensures { IsTrue result ↔ ((i f : ℕ) → slice_get operations.now i ≡ Some f
         → HasResult (signature_of signature.now) sort f) }
 {

@@ -165,18 +165,15 @@ fn deal<D: Deciding>(
         match next(setting, proving, &mut left, &lines[number], data_) {
             Ok(()) => {}
             Err(fault) => {
-                return Err(AtLine {
-                    line: begin + number,
-                    fault,
-                });
+                let line = begin + number;
+                return Err(AtLine { line, fault });
             }
         }
     }
     if !left.is_empty() {
-        return Err(AtLine {
-            line: begin + lines.len(),
-            fault: LineFault::BadLine,
-        });
+        let line = begin + lines.len();
+        let fault = LineFault::BadLine;
+        return Err(AtLine { line, fault });
     }
     Ok(())
 }

@@ -88,12 +88,11 @@ pub fn first(setting: &Setting, operation: u32) -> Result<Pattern, NoMemory>
     })
 }
 
+/// The patterns that a line leaves of one, or what is wrong with the line.
+pub type Patterns = Result<Vec<Pattern>, LineFault>;
+
 /// The patterns that the line leaves of this one, or what is wrong with the line.
-pub fn pattern_line(
-    setting: &Setting,
-    pattern: &Pattern,
-    line: &TreeLine,
-) -> Result<Vec<Pattern>, LineFault>
+pub fn pattern_line(setting: &Setting, pattern: &Pattern, line: &TreeLine) -> Patterns
     requires covers { HasCoverResults setting.now }
     requires known { IsKnownPattern (pattern_in pattern.now) }
     ensures comes { IfOk result (λ parts. PatternComesTo (setting_signature setting.now)
@@ -111,7 +110,7 @@ pub fn pattern_line(
 }
 
 // That some rule rewrites the pattern, so that nothing is left.
-fn leaf(setting: &Setting, pattern: &Pattern) -> Result<Vec<Pattern>, LineFault>
+fn leaf(setting: &Setting, pattern: &Pattern) -> Patterns
     ensures comes { IfOk result (λ parts. PatternComesTo (setting_signature setting.now)
         (setting_rules setting.now) (setting_covers setting.now) (pattern_in pattern.now) leaf_here
         (patterns_in parts.items)) }
@@ -140,7 +139,7 @@ fn some_rule_matches(setting: &Setting, pattern: &Pattern) -> Result<bool, NoMem
 }
 
 // The patterns that are left behind a split of the variable at the path.
-fn split(setting: &Setting, pattern: &Pattern, path: &[u32]) -> Result<Vec<Pattern>, LineFault>
+fn split(setting: &Setting, pattern: &Pattern, path: &[u32]) -> Patterns
     requires covers { HasCoverResults setting.now }
     requires known { IsKnownPattern (pattern_in pattern.now) }
     ensures comes { IfOk result (λ parts. PatternComesTo (setting_signature setting.now)
@@ -158,12 +157,7 @@ fn split(setting: &Setting, pattern: &Pattern, path: &[u32]) -> Result<Vec<Patte
 }
 
 // The patterns that are left behind a split of this variable of the pattern.
-fn split_of(
-    setting: &Setting,
-    pattern: &Pattern,
-    number: u64,
-    sort: u32,
-) -> Result<Vec<Pattern>, LineFault>
+fn split_of(setting: &Setting, pattern: &Pattern, number: u64, sort: u32) -> Patterns
     requires covers { HasCoverResults setting.now }
     requires occurs { Occurs number sort (term_in pattern.now.term) }
     requires known { IsKnownPattern (pattern_in pattern.now) }

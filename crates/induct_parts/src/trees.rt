@@ -105,10 +105,8 @@ fn check_tree(
         (trees_in earlier.now) (tree_in tree.now))) at) }
 {
     if has_tree(earlier, tree.operation) {
-        return Err(AtLine {
-            line: begin,
-            fault: LineFault::BadLine,
-        });
+        let fault = LineFault::BadLine;
+        return Err(AtLine { line: begin, fault });
     }
     let pattern = first(setting, tree.operation)?;
     deal(setting, pattern, tree.lines.as_slice(), begin + 1)
@@ -146,18 +144,15 @@ fn deal(setting: &Setting, first: Pattern, lines: &[TreeLine], begin: usize) -> 
         match next(setting, &mut left, &lines[number]) {
             Ok(()) => {}
             Err(fault) => {
-                return Err(AtLine {
-                    line: begin + number,
-                    fault,
-                });
+                let line = begin + number;
+                return Err(AtLine { line, fault });
             }
         }
     }
     if !left.is_empty() {
-        return Err(AtLine {
-            line: begin + lines.len(),
-            fault: LineFault::BadLine,
-        });
+        let line = begin + lines.len();
+        let fault = LineFault::BadLine;
+        return Err(AtLine { line, fault });
     }
     Ok(())
 }

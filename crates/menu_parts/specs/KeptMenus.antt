@@ -72,10 +72,10 @@ pub record HasBoth (first second made : Spread) : Type 0 where
 
 -- What menus are made over: the specification is over data with a canon, its ranks are its own, and the number is above all
 -- variables that processes declare.
-pub record IsMaking (basis : Ground) (making : Making) : Type 0 where
-  pub base : IsLawfulGround basis
-  pub ranks : AreRanksOf basis.spec making.ranks.now
-  pub least : above_processes (specification_of basis.spec).processes ≤ making.least
+pub record IsMaking (data_ : Data) (canon : Term → Term) (making : Making) : Type 0 where
+  pub base : IsLawfulGround (ground_of data_ canon making.spec.now)
+  pub ranks : AreRanksOf making.spec.now making.ranks.now
+  pub least : above_processes (specification_of making.spec.now).processes ≤ making.least
 
 -- The maker suits the specification with the data and the canon: its number is above all variables that processes declare,
 -- and each menu that it keeps is the exact one.

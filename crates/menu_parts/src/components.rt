@@ -39,9 +39,7 @@ pub fn whole<D: Deciding>(
     room: Room,
     decider: &mut D,
 ) -> Result<Rc<Kept>, NoMemory>
-    requires base { IsMaking
-        (ground_of (D.known_data decider.old) (D.canon decider.old) making.now.spec.now)
-        making.now }
+    requires base { IsMaking (D.known_data decider.old) (D.canon decider.old) making.now }
     requires node { IsPassableNode
         (ground_of (D.known_data decider.old) (D.canon decider.old) making.now.spec.now)
         node.now.value }

@@ -47,6 +47,9 @@ pub enum Form<'a> {
     Beside(&'a Meet, Rc<Node>, Rc<Node>),
 }
 
+// A form, where there is memory for it.
+type Formed<'a> = Result<Form<'a>, NoMemory>;
+
 /// The form of a node.
 pub fn node_form<'a, D: Deciding>(
     walk: &Walk<'_>,
@@ -96,7 +99,7 @@ fn behaviour_form<'a, D: Deciding>(
     walk: &Walk<'_>,
     behaviour: &'a Beh,
     decider: &mut D,
-) -> Result<Form<'a>, NoMemory>
+) -> Formed<'a>
     requires base { IsLawfulGround
         (ground_of (D.known_data decider.old) (D.canon decider.old) walk.now.spec.now) }
     requires part { IsPassable
@@ -133,12 +136,7 @@ fn behaviour_form<'a, D: Deciding>(
 }
 
 // The form of a parallel.
-fn parallel_form<'a>(
-    alloc: Global,
-    meet: &'a Meet,
-    left: &Side<'_>,
-    right: &Side<'_>,
-) -> Result<Form<'a>, NoMemory>
+fn parallel_form<'a>(alloc: Global, meet: &'a Meet, left: &Side<'_>, right: &Side<'_>) -> Formed<'a>
     ensures { IfOk result (λ form. (basis : Ground) → IsLawfulGround basis
         → IsPassable basis (plain.parallel (meet_of meet.now) (side_of left.now)
         (side_of right.now)) (side_profiles left.now ++ side_profiles right.now)
@@ -152,7 +150,7 @@ fn parallel_form<'a>(
 }
 
 // The form of a hiding.
-fn hide_form<'a>(alloc: Global, gates: &'a Vec<u32>, part: &Side<'_>) -> Result<Form<'a>, NoMemory>
+fn hide_form<'a>(alloc: Global, gates: &'a Vec<u32>, part: &Side<'_>) -> Formed<'a>
     ensures { IfOk result (λ form. (basis : Ground) → IsLawfulGround basis
         → IsPassable basis (plain.hide gates.now.items (side_of part.now))
         (side_profiles part.now) → IsSideState part.now
@@ -163,11 +161,7 @@ fn hide_form<'a>(alloc: Global, gates: &'a Vec<u32>, part: &Side<'_>) -> Result<
 }
 
 // The form of an enabling, whatever its right side is.
-fn enable_form<'a>(
-    alloc: Global,
-    variables: &'a Vec<Variable>,
-    left: &Side<'_>,
-) -> Result<Form<'a>, NoMemory>
+fn enable_form<'a>(alloc: Global, variables: &'a Vec<Variable>, left: &Side<'_>) -> Formed<'a>
     ensures { IfOk result (λ form. (basis : Ground) (right : Behaviour)
         (terms : List ProfiledTerm) → IsLawfulGround basis
         → IsPassable basis (plain.enable (side_of left.now)
@@ -180,7 +174,7 @@ fn enable_form<'a>(
 }
 
 // The form of a disabling.
-fn disable_form<'a>(alloc: Global, left: &Side<'_>, right: &Side<'_>) -> Result<Form<'a>, NoMemory>
+fn disable_form<'a>(alloc: Global, left: &Side<'_>, right: &Side<'_>) -> Formed<'a>
     ensures { IfOk result (λ form. (basis : Ground) → IsLawfulGround basis
         → IsPassable basis (plain.disable (side_of left.now) (side_of right.now))
         (side_profiles left.now ++ side_profiles right.now)
@@ -193,11 +187,7 @@ fn disable_form<'a>(alloc: Global, left: &Side<'_>, right: &Side<'_>) -> Result<
 }
 
 // The form of a relabelling.
-fn relabel_form<'a>(
-    alloc: Global,
-    pairs: &Vec<(u32, u32)>,
-    part: &Side<'_>,
-) -> Result<Form<'a>, NoMemory>
+fn relabel_form<'a>(alloc: Global, pairs: &Vec<(u32, u32)>, part: &Side<'_>) -> Formed<'a>
     ensures { IfOk result (λ form. (basis : Ground) → IsLawfulGround basis
         → IsPassable basis (plain.relabel pairs.now.items (side_of part.now))
         (side_profiles part.now) → IsSideState part.now
@@ -212,12 +202,7 @@ fn relabel_form<'a>(
 const MOST_COPIES: usize = 100;
 
 // The form of a gate `par`: that of its copies side by side.
-fn copies_form<'a>(
-    formal: u32,
-    gates: &Vec<u32>,
-    meet: &Meet,
-    part: &Rc<Beh>,
-) -> Result<Form<'a>, NoMemory>
+fn copies_form<'a>(formal: u32, gates: &Vec<u32>, meet: &Meet, part: &Rc<Beh>) -> Formed<'a>
     ensures { IfOk result (λ form. (basis : Ground) → IsLawfulGround basis
         → IsPassable basis (plain.par_gate formal gates.now.items (meet_of meet.now)
         (behaviour_of part.now.value)) (profiles_in part.now.value)
@@ -253,7 +238,7 @@ fn let_form<'a, D: Deciding>(
     bindings: &Vec<(Variable, Sorted)>,
     part: &Beh,
     decider: &mut D,
-) -> Result<Form<'a>, NoMemory>
+) -> Formed<'a>
     requires base { IsLawfulGround
         (ground_of (D.known_data decider.old) (D.canon decider.old) walk.now.spec.now) }
     requires part { IsPassable
@@ -280,7 +265,7 @@ fn call_form<'a, D: Deciding>(
     gates: &Vec<u32>,
     values: &Vec<Sorted>,
     decider: &mut D,
-) -> Result<Form<'a>, NoMemory>
+) -> Formed<'a>
     requires base { IsLawfulGround
         (ground_of (D.known_data decider.old) (D.canon decider.old) walk.now.spec.now) }
     requires part { IsPassable

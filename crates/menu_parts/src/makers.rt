@@ -12,7 +12,7 @@ use crate::components::Making;
 use crate::kept::Kept;
 use crate::making::brought;
 use crate::rooms::Room;
-use crate::widths::is_wide;
+use crate::widths::Widths;
 use behaviour_tree::boxes::shared;
 use behaviour_tree::{Spec, State};
 use lotos_base::NoMemory;
@@ -24,13 +24,13 @@ use std::rc::Rc;
 
 /// A maker that keeps the menus of the parts of the last state, and uses them again where a part is
 /// the same. It is opened for a specification, and suits it with any of its data before the first
-/// menu, and with the data and the canon that were used from then on. Where the specification has a
-/// gate `par` of very many gates it keeps nothing.
+/// menu, and with the data and the canon that were used from then on. Nothing is kept of a state that
+/// offers the events of a gate `par` of very many gates.
 #[derive(Drop)]
 pub struct PartMenus {
     least: u64,
     kept: Option<Rc<Kept>>,
-    is_wide: bool,
+    widths: Widths,
 }
 
 impl PartMenus {
@@ -43,7 +43,7 @@ impl PartMenus {
         Ok(PartMenus {
             least,
             kept: None,
-            is_wide: is_wide(spec),
+            widths: Widths::of(spec),
         })
     }
 }
@@ -59,7 +59,7 @@ impl MenuMaker for PartMenus {
         state: &State,
         decider: &mut D,
     ) -> Result<Menu, NoMemory> {
-        if self.is_wide {
+        if self.widths.are_offered(spec, ranks, state)? {
             return menu(alloc, spec, ranks, state, decider);
         }
         let copy = state.node().copy(alloc)?;

@@ -41,9 +41,7 @@ pub fn brought<D: Deciding>(
     room: Room,
     decider: &mut D,
 ) -> Result<Rc<Kept>, NoMemory>
-    requires base { IsMaking
-        (ground_of (D.known_data decider.old) (D.canon decider.old) making.now.spec.now)
-        making.now }
+    requires base { IsMaking (D.known_data decider.old) (D.canon decider.old) making.now }
     requires node { IsPassableNode
         (ground_of (D.known_data decider.old) (D.canon decider.old) making.now.spec.now)
         node.now.value }
@@ -72,9 +70,7 @@ fn renewed<D: Deciding>(
     room: Room,
     decider: &mut D,
 ) -> Result<Rc<Kept>, NoMemory>
-    requires base { IsMaking
-        (ground_of (D.known_data decider.old) (D.canon decider.old) making.now.spec.now)
-        making.now }
+    requires base { IsMaking (D.known_data decider.old) (D.canon decider.old) making.now }
     requires node { IsPassableNode
         (ground_of (D.known_data decider.old) (D.canon decider.old) making.now.spec.now)
         node.now.value }
@@ -102,9 +98,7 @@ fn formed<D: Deciding>(
     room: Room,
     decider: &mut D,
 ) -> Result<Rc<Kept>, NoMemory>
-    requires base { IsMaking
-        (ground_of (D.known_data decider.old) (D.canon decider.old) making.now.spec.now)
-        making.now }
+    requires base { IsMaking (D.known_data decider.old) (D.canon decider.old) making.now }
     requires node { IsPassableNode
         (ground_of (D.known_data decider.old) (D.canon decider.old) making.now.spec.now)
         node.now.value }
@@ -143,9 +137,7 @@ fn one<D: Deciding>(
     room: Room,
     decider: &mut D,
 ) -> Result<Rc<Kept>, NoMemory>
-    requires base { IsMaking
-        (ground_of (D.known_data decider.old) (D.canon decider.old) making.now.spec.now)
-        making.now }
+    requires base { IsMaking (D.known_data decider.old) (D.canon decider.old) making.now }
     requires part { IsPassableNode
         (ground_of (D.known_data decider.old) (D.canon decider.old) making.now.spec.now)
         part.now.value }
@@ -179,9 +171,7 @@ fn both<D: Deciding>(
     room: Room,
     decider: &mut D,
 ) -> Result<(Rc<Kept>, Rc<Kept>), NoMemory>
-    requires base { IsMaking
-        (ground_of (D.known_data decider.old) (D.canon decider.old) making.now.spec.now)
-        making.now }
+    requires base { IsMaking (D.known_data decider.old) (D.canon decider.old) making.now }
     requires left { IsPassableNode
         (ground_of (D.known_data decider.old) (D.canon decider.old) making.now.spec.now)
         left.now.value }
@@ -215,9 +205,7 @@ fn of_either<D: Deciding>(
     room: Room,
     decider: &mut D,
 ) -> Result<Rc<Kept>, NoMemory>
-    requires base { IsMaking
-        (ground_of (D.known_data decider.old) (D.canon decider.old) making.now.spec.now)
-        making.now }
+    requires base { IsMaking (D.known_data decider.old) (D.canon decider.old) making.now }
     requires left { IsPassableNode
         (ground_of (D.known_data decider.old) (D.canon decider.old) making.now.spec.now)
         left.now.value }
@@ -259,9 +247,7 @@ fn of_parallel<D: Deciding>(
     room: Room,
     decider: &mut D,
 ) -> Result<Rc<Kept>, NoMemory>
-    requires base { IsMaking
-        (ground_of (D.known_data decider.old) (D.canon decider.old) making.now.spec.now)
-        making.now }
+    requires base { IsMaking (D.known_data decider.old) (D.canon decider.old) making.now }
     requires left { IsPassableNode
         (ground_of (D.known_data decider.old) (D.canon decider.old) making.now.spec.now)
         left.now.value }
@@ -301,9 +287,7 @@ fn made_anew<D: Deciding>(
     room: Room,
     decider: &mut D,
 ) -> Result<Rc<Kept>, NoMemory>
-    requires base { IsMaking
-        (ground_of (D.known_data decider.old) (D.canon decider.old) making.now.spec.now)
-        making.now }
+    requires base { IsMaking (D.known_data decider.old) (D.canon decider.old) making.now }
     requires node { IsPassableNode
         (ground_of (D.known_data decider.old) (D.canon decider.old) making.now.spec.now)
         node.now.value }
@@ -330,9 +314,7 @@ fn of_spread<D: Deciding>(
     room: Room,
     decider: &mut D,
 ) -> Result<Rc<Kept>, NoMemory>
-    requires base { IsMaking
-        (ground_of (D.known_data decider.old) (D.canon decider.old) making.now.spec.now)
-        making.now }
+    requires base { IsMaking (D.known_data decider.old) (D.canon decider.old) making.now }
     requires node { IsPassableNode
         (ground_of (D.known_data decider.old) (D.canon decider.old) making.now.spec.now)
         node.now.value }
@@ -358,9 +340,7 @@ fn spread_at<D: Deciding>(
     room: Room,
     decider: &mut D,
 ) -> Result<Rc<Spread>, NoMemory>
-    requires base { IsMaking
-        (ground_of (D.known_data decider.old) (D.canon decider.old) making.now.spec.now)
-        making.now }
+    requires base { IsMaking (D.known_data decider.old) (D.canon decider.old) making.now }
     requires node { IsPassableNode
         (ground_of (D.known_data decider.old) (D.canon decider.old) making.now.spec.now)
         node.now.value }
@@ -393,9 +373,7 @@ fn one_side<D: Deciding>(
     room: Room,
     decider: &mut D,
 ) -> Result<Rc<Spread>, NoMemory>
-    requires base { IsMaking
-        (ground_of (D.known_data decider.old) (D.canon decider.old) making.now.spec.now)
-        making.now }
+    requires base { IsMaking (D.known_data decider.old) (D.canon decider.old) making.now }
     requires node { IsPassableNode
         (ground_of (D.known_data decider.old) (D.canon decider.old) making.now.spec.now)
         node.now.value }
@@ -421,9 +399,7 @@ fn spread_below<D: Deciding>(
     room: Room,
     decider: &mut D,
 ) -> Result<Rc<Spread>, NoMemory>
-    requires base { IsMaking
-        (ground_of (D.known_data decider.old) (D.canon decider.old) making.now.spec.now)
-        making.now }
+    requires base { IsMaking (D.known_data decider.old) (D.canon decider.old) making.now }
     requires node { IsPassableNode
         (ground_of (D.known_data decider.old) (D.canon decider.old) making.now.spec.now)
         node.now.value }
@@ -460,9 +436,7 @@ fn under<D: Deciding>(
     room: Room,
     decider: &mut D,
 ) -> Result<Rc<Spread>, NoMemory>
-    requires base { IsMaking
-        (ground_of (D.known_data decider.old) (D.canon decider.old) making.now.spec.now)
-        making.now }
+    requires base { IsMaking (D.known_data decider.old) (D.canon decider.old) making.now }
     requires part { IsPassableNode
         (ground_of (D.known_data decider.old) (D.canon decider.old) making.now.spec.now)
         part.now.value }
@@ -501,9 +475,7 @@ fn side_by_side<D: Deciding>(
     room: Room,
     decider: &mut D,
 ) -> Result<Rc<Spread>, NoMemory>
-    requires base { IsMaking
-        (ground_of (D.known_data decider.old) (D.canon decider.old) making.now.spec.now)
-        making.now }
+    requires base { IsMaking (D.known_data decider.old) (D.canon decider.old) making.now }
     requires left { IsPassableNode
         (ground_of (D.known_data decider.old) (D.canon decider.old) making.now.spec.now)
         left.now.value }
@@ -537,9 +509,7 @@ fn both_spreads<D: Deciding>(
     room: Room,
     decider: &mut D,
 ) -> Result<(Rc<Spread>, Rc<Spread>), NoMemory>
-    requires base { IsMaking
-        (ground_of (D.known_data decider.old) (D.canon decider.old) making.now.spec.now)
-        making.now }
+    requires base { IsMaking (D.known_data decider.old) (D.canon decider.old) making.now }
     requires left { IsPassableNode
         (ground_of (D.known_data decider.old) (D.canon decider.old) making.now.spec.now)
         left.now.value }

@@ -49,6 +49,9 @@ fn is_beside(node: &Node) -> bool {
     }
 }
 
+// What is opened, where there is memory for it.
+type Opening = Result<Opened, NoMemory>;
+
 /// The parts of the node that stand side by side, or the one under its relabelling.
 pub fn open_node(alloc: Global, node: &Node) -> Result<Opened, NoMemory>
     ensures { IfOk result (λ made. (basis : Ground) → IsLawfulGround basis
@@ -71,7 +74,7 @@ pub fn open_node(alloc: Global, node: &Node) -> Result<Opened, NoMemory>
 }
 
 // The same of a closed behaviour.
-fn open_behaviour(alloc: Global, behaviour: &Beh) -> Result<Opened, NoMemory>
+fn open_behaviour(alloc: Global, behaviour: &Beh) -> Opening
     ensures { IfOk result (λ made. (basis : Ground) → IsLawfulGround basis
         → IsPassable basis (behaviour_of behaviour.now) (profiles_in behaviour.now)
         → IsOpened basis (behaviour_of behaviour.now) made) }
@@ -86,11 +89,7 @@ fn open_behaviour(alloc: Global, behaviour: &Beh) -> Result<Opened, NoMemory>
 }
 
 // The same of a relabelling.
-fn open_relabelling(
-    alloc: Global,
-    pairs: &Vec<(u32, u32)>,
-    part: &Side<'_>,
-) -> Result<Opened, NoMemory>
+fn open_relabelling(alloc: Global, pairs: &Vec<(u32, u32)>, part: &Side<'_>) -> Opening
     ensures { IfOk result (λ made. (basis : Ground) → IsLawfulGround basis
         → IsPassable basis (plain.relabel pairs.now.items (side_of part.now))
         (side_profiles part.now) → IsSideState part.now
@@ -102,12 +101,7 @@ fn open_relabelling(
 }
 
 // The same of a parallel.
-fn open_parallel(
-    alloc: Global,
-    meet: &Meet,
-    left: &Side<'_>,
-    right: &Side<'_>,
-) -> Result<Opened, NoMemory>
+fn open_parallel(alloc: Global, meet: &Meet, left: &Side<'_>, right: &Side<'_>) -> Opening
     ensures { IfOk result (λ made. (basis : Ground) → IsLawfulGround basis
         → IsPassable basis (plain.parallel (meet_of meet.now) (side_of left.now)
         (side_of right.now)) (side_profiles left.now ++ side_profiles right.now)

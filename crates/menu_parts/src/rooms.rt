@@ -1,6 +1,6 @@
 //! How far a state is looked at part by part.
 
-ghost use Rattle.std.specs.Prelude.{◌≡◌, ◌+◌, IfSome};
+ghost use Rattle.std.specs.Prelude.{◌≡◌, ◌⊎◌, ◌+◌, ◌-◌, IfSome, IfNone};
 
 // The menu of each part above such a part is kept, and is as long as all that stands below. What
 // stands deeper is one component.
@@ -20,7 +20,10 @@ pub struct Room {
 
 impl Room {
     /// All that there is: 128 menus, and 4,000 levels.
-    pub fn all() -> Room {
+    pub fn all() -> Room
+        ensures lists { result.lists ≡ 128 }
+        ensures levels { result.levels ≡ 4000 }
+    {
         Room {
             lists: LISTS,
             levels: LEVELS,
@@ -29,7 +32,9 @@ impl Room {
 
     /// What is left below a menu, if anything.
     pub fn below_menu(self) -> Option<Room>
-        ensures { IfSome result (λ below. self.levels ≡ below.levels + 1) }
+        ensures levels { IfSome result (λ below. self.levels ≡ below.levels + 1) }
+        ensures lists { IfSome result (λ below. self.lists ≡ below.lists + 1) }
+        ensures none { IfNone result ((self.levels ≡ 0) ⊎ (self.lists ≡ 0)) }
     {
         let levels = self.levels.checked_sub(1)?;
         let lists = self.lists.checked_sub(1)?;
@@ -38,7 +43,9 @@ impl Room {
 
     /// What is left below a level of parts side by side, if anything.
     pub fn below_level(self) -> Option<Room>
-        ensures { IfSome result (λ below. self.levels ≡ below.levels + 1) }
+        ensures levels { IfSome result (λ below. self.levels ≡ below.levels + 1) }
+        ensures lists { IfSome result (λ below. self.lists ≡ below.lists) }
+        ensures none { IfNone result (self.levels ≡ 0) }
     {
         let levels = self.levels.checked_sub(1)?;
         Some(Room {
@@ -48,7 +55,9 @@ impl Room {
     }
 
     /// How many levels stand above.
-    pub fn used(self) -> u32 {
+    pub fn used(self) -> u32
+        ensures { result ≡ 4000 - self.levels }
+    {
         LEVELS.saturating_sub(self.levels)
     }
 }

@@ -63,7 +63,7 @@ renewed-returns-in-None-clause-kept g t c =
 pub renewed-made_anew-requires : goal.renewed-made_anew-requires
 renewed-made_anew-requires g t c κs within =
     let room : c.args.room.levels ≡ c.in-Some.below.levels + 1 =
-    subst (λ (o : Option Room). IfSome o (λ (below : Room). c.args.room.levels ≡ below.levels + 1)) c.in-Some.is c.below_menu.ensures in (
+    subst (λ (o : Option Room). IfSome o (λ (below : Room). c.args.room.levels ≡ below.levels + 1)) c.in-Some.is c.below_menu.ensures.levels in (
       omega (arith, room, c.decreases),
       (
         search rules,
@@ -109,7 +109,7 @@ formed-node_form-requires-clause-node g t c =
 
 pub formed-whole-requires-clause-base : goal.formed-whole-requires-clause-base
 formed-whole-requires-clause-base g t c =
-    holds_after (λ (d : Data) (f : Term → Term). IsMaking (ground_of d f c.args.making.now.spec.now) c.args.making.now)
+    holds_after (λ (d : Data) (f : Term → Term). IsMaking d f c.args.making.now)
     c.node_form.ensures.same_known c.requires.base
 
 pub formed-whole-requires-clause-node : goal.formed-whole-requires-clause-node
@@ -134,7 +134,7 @@ formed-one-requires g t c κs within =
       (
         search rules,
         (
-          (holds_after (λ (d : Data) (f : Term → Term). IsMaking (ground_of d f c.args.making.now.spec.now) c.args.making.now)
+          (holds_after (λ (d : Data) (f : Term → Term). IsMaking d f c.args.making.now)
               c.node_form.ensures.same_known c.requires.base),
           (
             holds_after (λ (d : Data) (f : Term → Term). IsPassableNode (ground_of d f c.args.making.now.spec.now) c.in-One.part.value)
@@ -168,7 +168,7 @@ formed-of_either-requires g t c κs within =
       (
         search rules,
         (
-          (holds_after (λ (d : Data) (f : Term → Term). IsMaking (ground_of d f c.args.making.now.spec.now) c.args.making.now)
+          (holds_after (λ (d : Data) (f : Term → Term). IsMaking d f c.args.making.now)
               c.node_form.ensures.same_known c.requires.base),
           (
             holds_after (λ (d : Data) (f : Term → Term). IsPassableNode (ground_of d f c.args.making.now.spec.now) c.in-Either.left.value)
@@ -207,7 +207,7 @@ formed-of_parallel-requires g t c κs within =
       (
         search rules,
         (
-          (holds_after (λ (d : Data) (f : Term → Term). IsMaking (ground_of d f c.args.making.now.spec.now) c.args.making.now)
+          (holds_after (λ (d : Data) (f : Term → Term). IsMaking d f c.args.making.now)
               c.node_form.ensures.same_known c.requires.base),
           (
             holds_after (λ (d : Data) (f : Term → Term). IsPassableNode (ground_of d f c.args.making.now.spec.now) c.in-Beside.left.value)
@@ -290,7 +290,7 @@ both-brought-requires-2 g t c κs within = (
   (
     search rules,
     (
-      holds_after (λ (d : Data) (f : Term → Term). IsMaking (ground_of d f c.args.making.now.spec.now) c.args.making.now)
+      holds_after (λ (d : Data) (f : Term → Term). IsMaking d f c.args.making.now)
           c.brought.ensures.same_known c.requires.base,
       (
         holds_after (λ (d : Data) (f : Term → Term). IsPassableNode (ground_of d f c.args.making.now.spec.now) c.args.right.now.value)
@@ -410,7 +410,7 @@ pub spread_at-spread_below-requires : goal.spread_at-spread_below-requires
 spread_at-spread_below-requires g t c κs within =
     let room : c.args.room.levels ≡ c.in-Some-below_level.below.levels + 1 =
     subst (λ (o : Option Room). IfSome o (λ (below : Room). c.args.room.levels ≡ below.levels + 1))
-    c.in-Some-below_level.is c.below_level.ensures in (
+    c.in-Some-below_level.is c.below_level.ensures.levels in (
       omega (arith, room, c.decreases),
       (search rules, (c.requires.base, (c.requires.node, c.requires.earlier))),
     )
@@ -515,7 +515,7 @@ both_spreads-spread_at-requires-2 g t c κs within = (
   (
     search rules,
     (
-      holds_after (λ (d : Data) (f : Term → Term). IsMaking (ground_of d f c.args.making.now.spec.now) c.args.making.now)
+      holds_after (λ (d : Data) (f : Term → Term). IsMaking d f c.args.making.now)
           c.spread_at.ensures.same_known c.requires.base,
       (
         holds_after (λ (d : Data) (f : Term → Term). IsPassableNode (ground_of d f c.args.making.now.spec.now) c.args.right.now.value)
