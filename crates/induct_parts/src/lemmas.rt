@@ -123,14 +123,8 @@ fn check_lemma<D: Deciding>(
         free: lemma.variables.len(),
     };
     let point = first(setting, lemma, data_)?;
-    deal(
-        setting,
-        &proving,
-        point,
-        lemma.lines.as_slice(),
-        begin + 3,
-        data_,
-    )
+    let lines = lemma.lines.as_slice();
+    deal(setting, &proving, point, lines, begin + 3, data_)
 }
 
 // That the lines, the first of which has this number, deal with the case.

@@ -90,13 +90,10 @@ fn found_for<'a>(
         (searched (profiled_of lemma.now.statement.left.term)
         (profiled_of equation.now.left.term) [])) }
 {
-    let left = search(
-        lemma.statement.left.term(),
-        equation.left.term(),
-        Vec::new(alloc),
-    )?;
+    let sides = &lemma.statement;
+    let left = search(sides.left.term(), equation.left.term(), Vec::new(alloc))?;
     match left {
-        Some(found) => search(lemma.statement.right.term(), equation.right.term(), found),
+        Some(found) => search(sides.right.term(), equation.right.term(), found),
         None => Ok(None),
     }
 }

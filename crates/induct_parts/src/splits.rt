@@ -211,11 +211,8 @@ fn part<D: Deciding>(
         (λ part. IsKnownCase (setting_signature setting.now) proving.now.free part) }
 {
     let op = &setting.signature.ops()[operation as usize];
-    let sorts = joined(
-        setting.alloc,
-        point.sorts.as_slice(),
-        op.arguments.as_slice(),
-    )?;
+    let arguments = op.arguments.as_slice();
+    let sorts = joined(setting.alloc, point.sorts.as_slice(), arguments)?;
     let term = operation_on(setting.alloc, op, operation, point.sorts.len() as u64)?;
     let put = Put {
         variable: number,

@@ -24,7 +24,7 @@ deal-requires-clause-known g c =
     (sym (c.len.ensures ∙ c.args.lemma.now.variables.ok.0)) c.in_ok-point.ensures.known
 
 pub deal-requires-clause-few : goal.deal-requires-clause-few
-deal-requires-clause-few g c = subst (λ ls. c.args.begin + 3 + length ls ≤ 2 ^ 32) (sym c.as_slice.ensures.value) c.requires.few
+deal-requires-clause-few g c = subst (λ ls. c.args.begin + 3 + length ls ≤ 2 ^ 32) (sym c.as_slice-lines.ensures.value) c.requires.few
 
 pub returns-clause-right : goal.returns-clause-right
 returns-clause-right g c =
@@ -33,12 +33,12 @@ returns-clause-right g c =
     IfOk-weaker c.deal.result _ _
     (λ u deals. lemma_right theory (setting_covers c.args.setting.now) earlier (lemma_in c.args.lemma.now)
     (record { earlier = statements_of earlier; free = c.len.result }) (case_in c.in_ok-point.point)
-    (map proof_line_of c.as_slice.result.now)
+    (map proof_line_of c.as_slice-lines.result.now)
     (ap (λ (n : ℕ). record { earlier = statements_of earlier; free = n }) (c.len.ensures ∙ c.args.lemma.now.variables.ok.0))
-    c.in_ok-point.ensures.first (ap (map proof_line_of) c.as_slice.ensures.value)
+    c.in_ok-point.ensures.first (ap (map proof_line_of) c.as_slice-lines.ensures.value)
     (held_before (λ (d : Data) (k : Term → Term). DealsWith (CaseComesTo (theory_in c.args.setting.now d k)
     (setting_covers c.args.setting.now) (record { earlier = statements_of earlier; free = c.len.result }))
-    (case_in c.in_ok-point.point ∷ []) (map proof_line_of c.as_slice.result.now))
+    (case_in c.in_ok-point.point ∷ []) (map proof_line_of c.as_slice-lines.result.now))
     c.first.ensures.same_data c.first.ensures.same_canon deals))
     c.deal.ensures.right
 
@@ -49,14 +49,14 @@ returns-clause-wrong g c =
     IfErr-weaker c.deal.result _ _
     (λ at wrong. lemma_wrong theory (setting_covers c.args.setting.now) earlier (lemma_in c.args.lemma.now)
     (record { earlier = statements_of earlier; free = c.len.result }) (case_in c.in_ok-point.point)
-    (map proof_line_of c.as_slice.result.now) c.args.begin at.line at.fault
+    (map proof_line_of c.as_slice-lines.result.now) c.args.begin at.line at.fault
     (ap (λ (n : ℕ). record { earlier = statements_of earlier; free = n }) (c.len.ensures ∙ c.args.lemma.now.variables.ok.0))
-    c.in_ok-point.ensures.first (ap (map proof_line_of) c.as_slice.ensures.value)
+    c.in_ok-point.ensures.first (ap (map proof_line_of) c.as_slice-lines.ensures.value)
     (held_before (λ (d : Data) (k : Term → Term). HoldsOfLineFault (FromLine (c.args.begin + 3) (FailsToDeal
     (CaseComesTo (theory_in c.args.setting.now d k) (setting_covers c.args.setting.now)
     (record { earlier = statements_of earlier; free = c.len.result }))
     (IsWrongAtCase (theory_in c.args.setting.now d k) (setting_covers c.args.setting.now)
     (record { earlier = statements_of earlier; free = c.len.result }))
-    bad_line (case_in c.in_ok-point.point ∷ []) (map proof_line_of c.as_slice.result.now)) at.line) at.fault)
+    bad_line (case_in c.in_ok-point.point ∷ []) (map proof_line_of c.as_slice-lines.result.now)) at.line) at.fault)
     c.first.ensures.same_data c.first.ensures.same_canon wrong))
     c.deal.ensures.wrong

@@ -13,7 +13,7 @@ use Rattle.induct_parts.proofs.splits.part.Goals as goal
 pub operation_on-requires : goal.operation_on-requires
 operation_on-requires g c =
     let room = joined_room c.in_ok-sorts.sorts c.args.point.now.sorts.items c.index-ops-operation.result.arguments.items
-    (c.in_ok-sorts.ensures ∙ (λ i. c.as_slice.ensures.value i ++ c.as_slice-2.ensures.value i)) in
+    (c.in_ok-sorts.ensures ∙ (λ i. c.as_slice.ensures.value i ++ c.as_slice-arguments.ensures.value i)) in
     omega (arith, room, c.len.ensures, c.args.point.now.sorts.ok.0)
 
 pub behind-requires-clause-put : goal.behind-requires-clause-put
@@ -34,7 +34,7 @@ behind-requires-clause-put g c =
 pub behind-requires-clause-room : goal.behind-requires-clause-room
 behind-requires-clause-room g c =
     let room = joined_room c.in_ok-sorts.sorts c.args.point.now.sorts.items c.index-ops-operation.result.arguments.items
-    (c.in_ok-sorts.ensures ∙ (λ i. c.as_slice.ensures.value i ++ c.as_slice-2.ensures.value i)) in
+    (c.in_ok-sorts.ensures ∙ (λ i. c.as_slice.ensures.value i ++ c.as_slice-arguments.ensures.value i)) in
     omega (arith, room)
 
 pub put_for-requires : goal.put_for-requires
@@ -90,8 +90,8 @@ returns-clause-made g c =
     (on_new c.args.point.now c.args.operation c.len.result op c.in_ok-term.term (c.len.ensures ∙ c.args.point.now.sorts.ok.0)
     c.in_ok-term.ensures)
     (g.D.Deciding.known_data c.args.data_.now) (g.D.Deciding.canon c.args.data_.now) part c.in_ok-with_term.with_term
-    (c.in_ok-sorts.ensures ∙ (λ i. c.as_slice.ensures.value i ++ c.as_slice-2.ensures.value i))
-    (c.in_ok-gone.ensures ∙ ap (λ (ns : List ℕ). c.args.number ∷ ns) c.as_slice-3.ensures.value)
+    (c.in_ok-sorts.ensures ∙ (λ i. c.as_slice.ensures.value i ++ c.as_slice-arguments.ensures.value i))
+    (c.in_ok-gone.ensures ∙ ap (λ (ns : List ℕ). c.args.number ∷ ns) c.as_slice-2.ensures.value)
     c.in_ok-hypotheses.ensures.behind c.in_ok-with_term.ensures.made c.in_ok-goal.ensures.made
 
 pub returns-clause-known : goal.returns-clause-known
@@ -115,7 +115,7 @@ returns-clause-known g c =
     (on_new c.args.point.now c.args.operation c.len.result op c.in_ok-term.term (c.len.ensures ∙ c.args.point.now.sorts.ok.0)
     c.in_ok-term.ensures)
     (g.D.Deciding.known_data c.args.data_.now) (g.D.Deciding.canon c.args.data_.now) part c.in_ok-with_term.with_term
-    (c.in_ok-sorts.ensures ∙ (λ i. c.as_slice.ensures.value i ++ c.as_slice-2.ensures.value i))
-    (c.in_ok-gone.ensures ∙ ap (λ (ns : List ℕ). c.args.number ∷ ns) c.as_slice-3.ensures.value)
+    (c.in_ok-sorts.ensures ∙ (λ i. c.as_slice.ensures.value i ++ c.as_slice-arguments.ensures.value i))
+    (c.in_ok-gone.ensures ∙ ap (λ (ns : List ℕ). c.args.number ∷ ns) c.as_slice-2.ensures.value)
     c.in_ok-hypotheses.ensures.behind c.in_ok-with_term.ensures.made c.in_ok-goal.ensures.made c.requires.set
     (c.in_ok-goal.ensures.over _ c.requires.set.signature) c.in_ok-hypotheses.ensures.over
