@@ -60,7 +60,7 @@ pub record IsUnreadPrinted (line : Option CommandLine) (shelf shelf_after : Shel
 
 -- Words that are no line are answered so, and nothing else is; likewise a file that could not be got, a fault of the input, one of
 -- the output, and byte 16,777,217 of a session. A failed output, or want of memory, may stand in the place of the others. No text of
--- the shelf changes but by lines of a session.
+-- the shelf changes but by lines of a session. Input and output are not called behind their ends, and no byte more is read.
 pub record AnswersHaveCauses (line : Option CommandLine) (shelf shelf_after : ShelfState) (before after : Streams) (answer : Ended)
     : Type 0 where
   -- the words are no line

@@ -43,8 +43,10 @@ use std::alloc::Global;
 /// printed, `CertificateRefused` where a certificate is, likewise, `InputFault` exactly where the
 /// input's count of faults rose, `InputTooLong` where byte 16,777,217 of the session was read, and
 /// else `Done`. In place of each stands `OutputFault` exactly where the output's count of faults
-/// rose, and `NoMemory` where memory was wanted; then
-/// what is written is a beginning of the report.
+/// rose, and `NoMemory` where memory was wanted; then what is written is a beginning of the report.
+///
+/// The input is not read behind its end or its fault, nor behind a fault of the output; the output
+/// is not written behind its fault. At most 16,777,217 bytes of the input are read.
 pub fn run<F: Shelf, S: Source, K: Sink>(
     alloc: Global,
     words: &[String],
