@@ -7,8 +7,8 @@ ghost use Rattle.sort_terms.specs.SignatureView.{signature_of};
 ghost use Rattle.sort_terms.specs.SortedView.{profiled_in};
 ghost use Rattle.std.specs.Prelude.{IfOk};
 
+use critical_pairs::{Pair, pairs};
 use direct_terms::{data, push_shown, read_terms, shown};
-use equation_book::{Pair, pairs};
 use lotos_base::Written;
 use lotos_library::boolean::BOOLEAN;
 use lotos_library::natural_number::NATURAL_NUMBER;

@@ -1,13 +1,14 @@
 //! Canonical terms of a store of terms that are kept once, beside the chosen forms that are made
 //! without one.
 
-ghost use Rattle.equation_book.specs.Joining.{StaysJoined};
+ghost use Rattle.critical_pairs.specs.Joining.{StaysJoined};
 ghost use Rattle.path_order.specs.RulesView.{plain_rules_in, signature_in};
 ghost use Rattle.sort_terms.specs.ProfiledTerm.{IsOf};
 ghost use Rattle.sort_terms.specs.SortedView.{profiled_in};
 
 use crate::rules::{one_term, rules_by};
-use equation_book::{Joined, Store, all_join};
+use critical_pairs::{Joined, all_join};
+use equation_book::Store;
 use lotos_library::boolean::BOOLEAN;
 use lotos_library::natural_number::NATURAL_NUMBER;
 use sort_terms::Sorted;

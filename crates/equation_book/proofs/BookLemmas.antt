@@ -25,8 +25,8 @@ use Rattle.sort_terms.proofs.ProfiledTermLemmas.{fitting_has_sort, sorted_fits}
 use Rattle.path_order.specs.RuleSides.{IsOf-prop}
 use Rattle.path_order.specs.RulesView.{rules_in, plain_rules_in, precedence_in, signature_in}
 use Rattle.path_order.proofs.RulesLemmas.{rules_have_forms, rules_well_formed}
-use Rattle.equation_book.specs.declared.joined.Joined.{Joined}
-use Rattle.equation_book.specs.JoinedFacts.{joined_confluent}
+use Rattle.critical_pairs.specs.declared.joined.Joined.{Joined}
+use Rattle.critical_pairs.specs.JoinedFacts.{joined_confluent}
 use Rattle.lotos_base.specs.WrittenTerm.{ListedOperation}
 use Rattle.equation_book.specs.Refusal.{IsOpenedBy}
 use Rattle.equation_book.specs.BookCanon.{book_canon}

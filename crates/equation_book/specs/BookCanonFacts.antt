@@ -10,7 +10,7 @@ use Rattle.sort_terms.specs.EquationView.{data_of}
 use Rattle.path_order.specs.RulesView.{rules_in, plain_rules_in, precedence_in}
 use Rattle.path_order.proofs.RulesLemmas.{rules_have_forms, rules_well_formed}
 use Rattle.path_order.proofs.RuleTestLemmas.{test_gives}
-use Rattle.equation_book.specs.JoinedFacts.{joined_confluent}
+use Rattle.critical_pairs.specs.JoinedFacts.{joined_confluent}
 use Rattle.equation_book.specs.SortedSidesFacts.{sorted_sides}
 use Rattle.equation_book.specs.BookCanon.{book_canon}
 use Rattle.equation_book.specs.declared.book.Book.{Book}

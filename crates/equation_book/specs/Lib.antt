@@ -1,14 +1,3 @@
-pub mod NodePlaces
-pub mod PairView
-pub mod Candidates
-pub mod Listing
-pub mod Extended
-pub mod Joining
-pub mod JoinedFacts
-pub mod TwoSides
-pub mod OverlapPair
-pub mod Contracted
-pub mod Finding
 pub mod SortedSides
 pub mod SortedSidesFacts
 pub mod BookCanon

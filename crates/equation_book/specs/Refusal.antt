@@ -13,9 +13,9 @@ use Rattle.path_order.specs.declared.order_fault.OrderFault.TheVariants.{Unknown
 use Rattle.path_order.specs.OrderedBy.{IsPrecedenceBy}
 use Rattle.path_order.specs.declared.orient_fault.OrientFault.{OrientFault}
 use Rattle.path_order.specs.declared.orient_fault.OrientFault.TheVariants.{Unorientable as OrientUnorientable, NoMemory as OrientNoMemory}
-use Rattle.equation_book.specs.Joining.{AreUnjoinedBy, IsPairFaultOver}
-use Rattle.equation_book.specs.declared.pair_fault.PairFault.{PairFault}
-use Rattle.equation_book.specs.declared.pair_fault.PairFault.TheVariants.{Unjoined as PairUnjoined, NoMemory as PairNoMemory}
+use Rattle.critical_pairs.specs.Joining.{AreUnjoinedBy, IsPairFaultOver}
+use Rattle.critical_pairs.specs.declared.pair_fault.PairFault.{PairFault}
+use Rattle.critical_pairs.specs.declared.pair_fault.PairFault.TheVariants.{Unjoined as PairUnjoined, NoMemory as PairNoMemory}
 use Rattle.equation_book.specs.declared.book_fault.BookFault.{BookFault}
 use Rattle.equation_book.specs.declared.book_fault.BookFault.TheVariants.{UnknownOperation, TwiceListed, BadStatus, Unorientable, Unjoined, NoMemory}
 

@@ -13,7 +13,7 @@ ghost use Rattle.sort_terms.specs.EquationView.{data_of};
 ghost use Rattle.sort_terms.specs.SignatureView.{signature_of};
 ghost use Rattle.std.specs.Prelude.{◌≡◌, true};
 
-use crate::joined::Joined;
+use critical_pairs::joined::Joined;
 use path_order::Rules;
 use sort_terms::Flat;
 use term_store::Store;

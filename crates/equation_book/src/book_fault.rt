@@ -2,7 +2,7 @@
 
 ghost use Rattle.std.specs.Prelude.{◌≡◌};
 
-use crate::pair_fault::PairFault;
+use critical_pairs::pair_fault::PairFault;
 use lotos_base::{Name, NoMemory, Place};
 use path_order::{OrderFault, OrientFault};
 use sort_terms::{Flat, Sorted};

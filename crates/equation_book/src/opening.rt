@@ -16,8 +16,8 @@ ghost use Rattle.std.specs.Prelude.{◌≡◌, IfErr, IfOk, map};
 
 use crate::book::Book;
 use crate::book_fault::{BookFault, NotOpened};
-use crate::joined::Joined;
-use crate::joining::all_join;
+use critical_pairs::joined::Joined;
+use critical_pairs::joining::all_join;
 use lotos_base::OrderItem;
 use path_order::{Precedence, orient};
 use sort_terms::Flat;

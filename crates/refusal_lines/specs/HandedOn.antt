@@ -1,8 +1,7 @@
 -- What crates above this one need of the crates below it.
 pub use Rattle.equation_book.specs.BookCanon.{book_canon}
 pub use Rattle.equation_book.specs.BookCanonFacts.{book_chooses, book_is_canon}
-pub use Rattle.equation_book.specs.Joining.{AreUnjoinedBy, ArePeaksOf}
-pub use Rattle.equation_book.specs.Listing.{equation_at}
+pub use Rattle.equation_book.specs.HandedOn.{AreUnjoinedBy, ArePeaksOf, equation_at}
 pub use Rattle.equation_book.specs.Refusal.{IsOpenedBy, IsBookFault}
 pub use Rattle.equation_book.specs.declared.book.Book.{Book}
 pub use Rattle.equation_book.specs.declared.book_fault.BookFault.{BookFault}
