@@ -1,16 +1,14 @@
 -- Which rule is the first that matches a term that is kept.
-use Rattle.std.proofs.Common.{arith, ◌≡◌, ◌<◌, ◌≤◌, ◌^◌, ℕ, zero, suc, List, [], ◌∷◌, length, get_or, Bool, true, false, Option, None, Some, refl, ap, sym, ◌∙◌, subst, inl, inr}
+use Rattle.std.proofs.Common.{arith, ◌≡◌, ◌<◌, ◌≤◌, ℕ, zero, suc, List, [], ◌∷◌, length, get_or, Bool, true, false, Option, None, Some, refl, ap, sym, ◌∙◌, subst, inl, inr}
 use Rattle.std.specs.Prelude.{slice_get, nat_lt, if◌then◌else◌, ◌⊎◌, MatchOption}
 use Rattle.std.specs.Option.{option_map}
 use Rattle.std.proofs.lemmas.Bool.{ltb-true, ltb-false}
-use Rattle.std.proofs.lemmas.List.{length-map}
 use Rattle.std.proofs.lemmas.Option.{same_Some, none-some, slice_get_within}
 use Rattle.lotos_base.specs.Signature.{Signature}
 use Rattle.lotos_base.specs.Term.{Term, Terms, node, term_then}
 use Rattle.rewriting_theory.specs.Matching.{Matches}
 use Rattle.sort_terms.specs.ProfiledTerm.{ProfiledTerm, profiled_variable, profiled_node, bare, all_bare, IsOf}
 use Rattle.sort_terms.specs.SortedView.{profiled_in, term_in}
-use Rattle.sort_terms.specs.Operations.{operation_of}
 use Rattle.path_order.specs.HeadIndexView.{numbers_at}
 use Rattle.path_order.specs.RuleHead.{has_head, headed}
 use Rattle.path_order.specs.RuleView.{rule_of, plain_rules}
@@ -23,7 +21,7 @@ use Rattle.term_rewriter.specs.declared.first_index.FirstIndex.{FirstIndex}
 use Rattle.term_rewriter.proofs.FirstLemmas.{none_matches_variable, tried_none, plain_at, code_at, left_node}
 use Rattle.term_rewriter.proofs.HeadLemmas.{where_number, where_has, where_rises, headed_is, match_begins, begins_headed, begins_first}
 use Rattle.term_store.specs.Cells.{operation_at, operation_in, members, key_term, key_terms, AreBelow, IsCell, HaveTermsOf}
-use Rattle.term_store.specs.FirstRule.{NoRule, IsFirstRuleAt, MatchesNot, NoneAmong, IsFirstAmong, HasAllRules, IsHeadAlone, BeginsAs, Found, earlier_of}
+use Rattle.term_store.specs.FirstRule.{NoRule, IsFirstRuleAt, MatchesNot, NoneAmong, IsFirstAmong, HasAllRules, IsHeadAlone, BeginsAs, Found, found_with, earlier_of}
 use Rattle.term_store.specs.NumberSearch.{number_searched}
 use Rattle.term_store.specs.Numbered.{term_at, numbered_pairs}
 use Rattle.term_store.proofs.CellLemmas.{first_term_of_key, first_cell_at}
@@ -72,15 +70,6 @@ operation_inside rules keys n f ns have inside some =
     let is = subst (λ (t : ProfiledTerm). IsOf (signature_in rules) t) (operation_term (signature_in rules) keys n f ns have inside some)
     (have.of n inside) in
     slice_get_within (signature_in rules).operations f (operation_at (signature_in rules) f) is.0
-
-pub operation_fits : (rules : Rules) (keys : List (List ℕ)) (n f : ℕ) (ns : List ℕ) → HaveTermsOf (signature_in rules) keys
-    → n < length keys → Some (f, ns) ≡ operation_in (get_or keys n []) → f < 2 ^ 32
-operation_fits rules keys n f ns have inside some =
-    let there = operation_inside rules keys n f ns have inside some in
-    let many : length (signature_in rules).operations ≡ length rules.signature.ops.items =
-    length-map rules.signature.ops.items operation_of in
-    let few = rules.signature.few_ops in
-    omega (arith, there, many, few)
 
 -- ---- The rules
 
@@ -205,33 +194,47 @@ first_of rules keys n f us opens begun candidates number pairs shape all others 
 pub first_of_two : (rules : Rules) (keys : List (List ℕ)) (n f : ℕ) (us : Terms) (opens begun : List ℕ) (one other : Option Found)
     → bare (term_at (signature_in rules) keys n) ≡ node f us → HasAllRules rules (IsHeadAlone f) opens
     → HasAllRules rules (BeginsAs f (first_head us)) begun
-    → MatchOption one (NoneAmong rules keys n opens) (λ found. IsFirstAmong rules keys n opens found.0 found.1.items)
-    → MatchOption other (NoneAmong rules keys n begun) (λ found. IsFirstAmong rules keys n begun found.0 found.1.items)
-    → MatchOption (earlier_of one other) (NoRule rules keys n) (λ found. IsFirstRuleAt rules keys n found.0 found.1.items)
+    → MatchOption one (NoneAmong rules keys n opens) (λ found. IsFirstAmong rules keys n opens found.0 found.1)
+    → MatchOption other (NoneAmong rules keys n begun) (λ found. IsFirstAmong rules keys n begun found.0 found.1)
+    → MatchOption (earlier_of one other) (NoRule rules keys n) (λ found. IsFirstRuleAt rules keys n found.0 found.1)
 first_of_two rules keys n f us opens begun None None shape all others first second = λ k rule is.
     none_before rules keys n f us opens begun (suc k) shape all others (λ i m at less. first i m at) (λ i m at less. second i m at) k
     (omega arith) rule is
 first_of_two rules keys n f us opens begun None (Some other) shape all others first second =
-    first_of rules keys n f us opens begun begun other.0 other.1.items shape all others (λ i m at less. first i m at)
-    (passed rules keys n (BeginsAs f (first_head us)) begun other.0 other.0 other.1.items others second (omega arith)) second
+    first_of rules keys n f us opens begun begun other.0 other.1 shape all others (λ i m at less. first i m at)
+    (passed rules keys n (BeginsAs f (first_head us)) begun other.0 other.0 other.1 others second (omega arith)) second
 first_of_two rules keys n f us opens begun (Some one) None shape all others first second =
-    first_of rules keys n f us opens begun opens one.0 one.1.items shape all others
-    (passed rules keys n (IsHeadAlone f) opens one.0 one.0 one.1.items all first (omega arith)) (λ i m at less. second i m at) first
+    first_of rules keys n f us opens begun opens one.0 one.1 shape all others
+    (passed rules keys n (IsHeadAlone f) opens one.0 one.0 one.1 all first (omega arith)) (λ i m at less. second i m at) first
 first_of_two rules keys n f us opens begun (Some one) (Some other) shape all others first second = go (nat_lt other.0 one.0) refl
   where
     go : (b : Bool) → nat_lt other.0 one.0 ≡ b
         → MatchOption (if b then Some other else Some one) (NoRule rules keys n)
-        (λ (found : Found). IsFirstRuleAt rules keys n found.0 found.1.items)
+        (λ (found : Found). IsFirstRuleAt rules keys n found.0 found.1)
     go true less =
         let before = ltb-true other.0 one.0 less in
-        first_of rules keys n f us opens begun begun other.0 other.1.items shape all others
-        (passed rules keys n (IsHeadAlone f) opens one.0 other.0 one.1.items all first (omega (arith, before)))
-        (passed rules keys n (BeginsAs f (first_head us)) begun other.0 other.0 other.1.items others second (omega arith)) second
+        first_of rules keys n f us opens begun begun other.0 other.1 shape all others
+        (passed rules keys n (IsHeadAlone f) opens one.0 other.0 one.1 all first (omega (arith, before)))
+        (passed rules keys n (BeginsAs f (first_head us)) begun other.0 other.0 other.1 others second (omega arith)) second
     go false less =
         let before = ltb-false other.0 one.0 less in
-        first_of rules keys n f us opens begun opens one.0 one.1.items shape all others
-        (passed rules keys n (IsHeadAlone f) opens one.0 one.0 one.1.items all first (omega arith))
-        (passed rules keys n (BeginsAs f (first_head us)) begun other.0 one.0 other.1.items others second before) first
+        first_of rules keys n f us opens begun opens one.0 one.1 shape all others
+        (passed rules keys n (IsHeadAlone f) opens one.0 one.0 one.1 all first (omega arith))
+        (passed rules keys n (BeginsAs f (first_head us)) begun other.0 one.0 other.1 others second before) first
+
+-- by the number of the rule and its pairs
+pub among_found : (rules : Rules) (keys : List (List ℕ)) (n : ℕ) (candidates : List ℕ) (pairs : List (ℕ × ℕ)) (o : Option ℕ)
+    → MatchOption o (NoneAmong rules keys n candidates) (λ rule. IsFirstAmong rules keys n candidates rule pairs)
+    → MatchOption (found_with o pairs) (NoneAmong rules keys n candidates)
+    (λ (found : Found). IsFirstAmong rules keys n candidates found.0 found.1)
+among_found rules keys n candidates pairs None is = is
+among_found rules keys n candidates pairs (Some rule) is = is
+
+pub of_found : (rules : Rules) (keys : List (List ℕ)) (n : ℕ) (pairs : List (ℕ × ℕ)) (o : Option ℕ)
+    → MatchOption (found_with o pairs) (NoRule rules keys n) (λ (found : Found). IsFirstRuleAt rules keys n found.0 found.1)
+    → MatchOption o (NoRule rules keys n) (λ rule. IsFirstRuleAt rules keys n rule pairs)
+of_found rules keys n pairs None is = is
+of_found rules keys n pairs (Some rule) is = is
 
 -- ---- The first of some terms
 

@@ -105,20 +105,16 @@ pub record IsReadied (values : Signature → ProfiledSubstitution) (f : ℕ) (ts
   pub terms : (signature : Signature) → AreOf signature ts → HaveTermsOf signature before
       → members (key_terms signature middle) numbers ≡ profiled_instances (values signature) ts
 
-numbers_behind : (old : List ℕ) (f : ℕ) (numbers begun more : List ℕ) → begun ≡ old ++ numbered_operation_key f [] → more ≡ begun ++ numbers
-    → more ≡ old ++ numbered_operation_key f numbers
-numbers_behind old f numbers begun more is behind =
-    behind ∙ ap (λ (h : List ℕ). h ++ numbers) is ∙ append_assoc old (numbered_operation_key f []) numbers
-
--- their numbers stand behind those of other keys
+-- their numbers stand behind others
 pub readied_behind : (values : Signature → ProfiledSubstitution) (f : ℕ) (ts : ProfiledTerms) (before middle : List (List ℕ))
-    (old begun more : List ℕ) (start : ℕ) → start ≡ length old → begun ≡ old ++ numbered_operation_key f [] → TakeIn ts before middle
-    → AreInstancesOf values ts before middle begun more → IsReadied values f ts before middle (drop start more)
-readied_behind values f ts before middle old begun more start at is takes numbers = record {
+    (old more : List ℕ) (start : ℕ) → start ≡ length old → TakeIn ts before middle → AreInstancesOf values ts before middle old more
+    → IsReadied values f ts before middle (numbered_operation_key f (drop start more))
+readied_behind values f ts before middle old more start at takes numbers = record {
   takes = takes;
   numbers = numbers.numbers;
-  made = ap (λ (k : ℕ). drop k more) at ∙ ap (drop (length old)) (numbers_behind old f numbers.numbers begun more is numbers.behind)
-      ∙ drop-append_seam old (numbered_operation_key f numbers.numbers);
+  made = ap (λ (k : ℕ). numbered_operation_key f (drop k more)) at
+      ∙ ap (λ (ns : List ℕ). numbered_operation_key f (drop (length old) ns)) numbers.behind
+      ∙ ap (λ (ns : List ℕ). numbered_operation_key f ns) (drop-append_seam old numbers.numbers);
   within = numbers.within;
   terms = numbers.terms;
 }

@@ -1,15 +1,17 @@
 -- Terms that are taken out of those that are kept.
-use Rattle.std.proofs.Common.{arith, refl, ap, sym, ◌∙◌, ◌≡◌, ◌<◌, ◌^◌, subst, ℕ, zero, suc, List, [], ◌∷◌, length, map, get_or, None, Some, Global}
+use Rattle.std.proofs.Common.{arith, refl, ap, sym, ◌∙◌, ◌≡◌, ◌<◌, ℕ, zero, suc, List, [], ◌∷◌, length, map, get_or, None, Some, Global}
+use Rattle.std.proofs.lemmas.Option.{same_Some}
 use Rattle.std.proofs.lemmas.List.{length-map, get_or-map, get_or_default}
 use Rattle.std.specs.declared.rc.Rc.{Rc}
-use Rattle.lotos_base.specs.Signature.{Operation, IsSort}
-use Rattle.sort_terms.specs.ProfiledTerm.{ProfiledTerm, ProfiledTerms, profiled_variable, profiled_term_then, IsOf}
-use Rattle.sort_terms.specs.Operations.{sort_of, operation_of}
+use Rattle.lotos_base.specs.Signature.{Operation}
+use Rattle.sort_terms.specs.ProfiledTerm.{ProfiledTerm, ProfiledTerms, profiled_variable, profiled_term_then}
+use Rattle.sort_terms.specs.Operations.{operation_of}
 use Rattle.sort_terms.specs.TermView.{profiled_terms}
 use Rattle.sort_terms.specs.declared.operations.Op.{Op}
 use Rattle.path_order.specs.RulesView.{signature_in}
 use Rattle.path_order.specs.declared.rules.Rules.{Rules}
 use Rattle.term_store.specs.Cells.{no_such_term, operation_in, operation_at, members, key_term, key_terms, IsCell, HaveTermsOf}
+use Rattle.term_store.specs.KeyView.{variable_in}
 use Rattle.term_store.specs.Numbered.{term_at}
 use Rattle.term_store.proofs.CellLemmas.{first_term_of_key, first_cell_at}
 use Rattle.term_store.proofs.FirstRuleLemmas.{operation_inside}
@@ -22,35 +24,32 @@ members_list terms (n ∷ ns) = ap (λ (ts : ProfiledTerms). profiled_term_then 
 
 -- ---- A variable
 
-pub record IsVariableKey (rules : Rules) (keys : List (List ℕ)) (n : ℕ) (key : List ℕ) : Type 0 where
-  pub three : length key ≡ 3
-  pub sort : get_or key 2 0 < 2 ^ 32
-  pub term : term_at (signature_in rules) keys n ≡ profiled_variable (get_or key 1 0) (get_or key 2 0)
-
-pub variable_key_at : (rules : Rules) (keys : List (List ℕ)) (n : ℕ) → HaveTermsOf (signature_in rules) keys → n < length keys
-    → operation_in (get_or keys n []) ≡ None → IsVariableKey rules keys n (get_or keys n [])
-variable_key_at rules keys n have inside none =
-    go (get_or keys n []) (first_cell_at keys n have.cells inside) none (first_term_of_key (signature_in rules) keys n have.cells inside)
+pub variable_read : (rules : Rules) (keys : List (List ℕ)) (n number sort : ℕ) → HaveTermsOf (signature_in rules) keys
+    → n < length keys → variable_in (get_or keys n []) ≡ Some (number, sort)
+    → term_at (signature_in rules) keys n ≡ profiled_variable number sort
+variable_read rules keys n number sort have inside is =
+    first_term_of_key (signature_in rules) keys n have.cells inside ∙ go (get_or keys n []) is
   where
-    few : (s : ℕ) → IsSort (signature_in rules) s → s < 2 ^ 32
-    few s is =
-        let many : length (signature_in rules).sorts ≡ length rules.signature.sorts.items =
-        length-map rules.signature.sorts.items sort_of in
-        let most = rules.signature.few_sorts in
-        omega (arith, is, many, most)
+    go : (key : List ℕ) → variable_in key ≡ Some (number, sort)
+        → key_term (signature_in rules) (key_terms (signature_in rules) keys) key ≡ profiled_variable number sort
+    go [] is = cc
+    go (suc m ∷ ns) is = cc
+    go (zero ∷ []) is = cc
+    go (zero ∷ m ∷ []) is = cc
+    go (zero ∷ m ∷ s ∷ ns) is =
+        ap (λ (p : ℕ × ℕ). profiled_variable p.0 p.1) (same_Some (m, s) (number, sort) is)
 
-    go : (key : List ℕ) → IsCell n key → operation_in key ≡ None
-        → term_at (signature_in rules) keys n ≡ key_term (signature_in rules) (key_terms (signature_in rules) keys) key
-        → IsVariableKey rules keys n key
-    go [] cell is same = absurd cell
-    go (zero ∷ ns) cell is same = record {
-      three = omega (arith, cell);
-      sort = few (get_or ns 1 0)
-          (subst (λ (t : ProfiledTerm). IsOf (signature_in rules) t) same (have.of n inside));
-      term = same;
-    }
-    go (suc m ∷ []) cell is same = absurd cell
-    go (suc m ∷ f ∷ ns) cell is same = cc
+pub variable_missing : (rules : Rules) (keys : List (List ℕ)) (n : ℕ) → HaveTermsOf (signature_in rules) keys → n < length keys
+    → operation_in (get_or keys n []) ≡ None → variable_in (get_or keys n []) ≡ None → ⊥
+variable_missing rules keys n have inside none missing = go (get_or keys n []) (first_cell_at keys n have.cells inside) none missing
+  where
+    go : (key : List ℕ) → IsCell n key → operation_in key ≡ None → variable_in key ≡ None → ⊥
+    go [] cell none missing = cell
+    go (suc m ∷ []) cell none missing = cell
+    go (suc m ∷ f ∷ ns) cell none missing = cc
+    go (zero ∷ []) cell none missing = omega (arith, cell)
+    go (zero ∷ m ∷ []) cell none missing = omega (arith, cell)
+    go (zero ∷ m ∷ s ∷ ns) cell none missing = cc
 
 -- ---- An operation
 

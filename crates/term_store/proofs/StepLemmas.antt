@@ -1,5 +1,5 @@
 -- What the first rule that matches a term makes of it, by numbers.
-use Rattle.std.proofs.Common.{◌≡◌, ◌<◌, ℕ, List, length, Option, None, Some, ap, sym, ◌∙◌, subst, Vec, Global}
+use Rattle.std.proofs.Common.{◌≡◌, ◌<◌, ℕ, List, length, Option, None, Some, ap, sym, ◌∙◌, subst}
 use Rattle.std.specs.Prelude.{slice_get, MatchOption}
 use Rattle.std.proofs.lemmas.Option.{same_Some}
 use Rattle.rewriting_theory.specs.Rule.{Rule as PlainRule}
@@ -20,23 +20,18 @@ use Rattle.term_store.specs.Numbered.{term_at, numbered_pairs, TakesIn, IsInstan
 use Rattle.term_store.specs.Turns.{CannotStep, StepsTo}
 use Rattle.term_store.proofs.CellLemmas.{grown_stays}
 
--- What is found of the first rule that matches.
-abbrev pub Found : Type 0
-Found = ℕ × Vec (ℕ × ℕ) Global
-
-pub no_step : (rules : Rules) (keys : List (List ℕ)) (n : ℕ) (o : Option Found) → o ≡ None
-    → MatchOption o (NoRule rules keys n) (λ found. IsFirstRuleAt rules keys n found.0 found.1.items) → CannotStep rules keys n
-no_step rules keys n (Some found) is none = cc
-no_step rules keys n None is none = λ rule there.
+pub no_step : (rules : Rules) (keys : List (List ℕ)) (n : ℕ) (pairs : List (ℕ × ℕ)) (o : Option ℕ) → o ≡ None
+    → MatchOption o (NoRule rules keys n) (λ rule. IsFirstRuleAt rules keys n rule pairs) → CannotStep rules keys n
+no_step rules keys n pairs (Some found) is none = cc
+no_step rules keys n pairs None is none = λ rule there.
     let from = code_at rules.rules.items there.0 rule there.1 in
     subst (λ (r : PlainRule). ¬ Matches r.left (bare (term_at (signature_in rules) keys n))) from.2 (none there.0 from.0 from.1)
 
-pub found_rule : (rules : Rules) (keys : List (List ℕ)) (n number : ℕ) (pairs : Vec (ℕ × ℕ) Global) (o : Option Found)
-    → o ≡ Some (number, pairs) → MatchOption o (NoRule rules keys n) (λ found. IsFirstRuleAt rules keys n found.0 found.1.items)
-    → IsFirstRuleAt rules keys n number pairs.items
+pub found_rule : (rules : Rules) (keys : List (List ℕ)) (n number : ℕ) (pairs : List (ℕ × ℕ)) (o : Option ℕ) → o ≡ Some number
+    → MatchOption o (NoRule rules keys n) (λ rule. IsFirstRuleAt rules keys n rule pairs) → IsFirstRuleAt rules keys n number pairs
 found_rule rules keys n number pairs None is first = cc
 found_rule rules keys n number pairs (Some found) is first =
-    subst (λ (f : Found). IsFirstRuleAt rules keys n f.0 f.1.items) (same_Some found (number, pairs) is) first
+    subst (λ (rule : ℕ). IsFirstRuleAt rules keys n rule pairs) (same_Some found number is) first
 
 -- the terms that are there once the instance of the right side is
 pub right_kept : (rules : Rules) (before after : List (List ℕ)) (number : ℕ) (rule : Rule) (right : Term)

@@ -1,12 +1,14 @@
 -- The operation on the forms that are kept for the arguments of another one.
-use Rattle.std.proofs.Common.{arith, refl, ap, sym, ◌≡◌, ◌<◌, ◌≤◌, subst, ℕ, zero, suc, List, [], ◌∷◌, length, get_or, Option, None, Some}
+use Rattle.std.proofs.Common.{arith, refl, ap, sym, ◌∙◌, ◌≡◌, ◌<◌, ◌≤◌, subst, ℕ, zero, suc, List, [], ◌∷◌, length, get_or, Option, None, Some}
+use Rattle.std.specs.Prelude.{MatchOption}
+use Rattle.std.proofs.lemmas.Option.{same_Some}
 use Rattle.lotos_base.specs.Term.{Term, node}
 use Rattle.rewriting_theory.specs.ChosenForm.{Chosen, AllChosen, all_chosen, chosen_then}
 use Rattle.sort_terms.specs.ProfiledTerm.{ProfiledTerm, bare, all_bare, IsOf}
 use Rattle.path_order.specs.RulesView.{signature_in, plain_rules_in}
 use Rattle.path_order.specs.declared.rules.Rules.{Rules}
 use Rattle.path_order.proofs.RulesLemmas.{rules_have_forms}
-use Rattle.term_store.specs.Cells.{operation_in, members, key_term, key_terms, AreBelow, IsCell, HasOneMore, KeyStandsAt}
+use Rattle.term_store.specs.Cells.{numbered_operation_key, operation_in, members, key_term, key_terms, AreBelow, IsCell, HasOneMore, KeyStandsAt}
 use Rattle.term_store.specs.FormsBelow.{HasFormsBelow, of_variable, of_operation}
 use Rattle.term_store.specs.Kept.{HasKeptForm, number_or, form_or_same, forms_of, IsSoundStore}
 use Rattle.term_store.specs.Numbered.{term_at}
@@ -117,3 +119,18 @@ whole_is rules before after kept n whole sound inside known more stands =
           (subst (λ (t : ProfiledTerm). HasFormsBelow (plain_rules_in rules) (bare (term_at (signature_in rules) before n)) (bare t))
           (sym second) it.below);
     }
+
+-- ---- How its key is made
+
+pub whole_of_variable : (kept : List (Option ℕ)) (keys : List (List ℕ)) (n : ℕ) (ns : List ℕ) (o : Option ℕ) → o ≡ None
+    → MatchOption o (operation_in (get_or keys n []) ≡ None) (λ f. numbered_operation_key f ns ≡ whole_key kept keys n)
+    → get_or keys n [] ≡ whole_key kept keys n
+whole_of_variable kept keys n ns None is none = sym (ap (key_with_forms kept (get_or keys n [])) none)
+whole_of_variable kept keys n ns (Some f) is none = cc
+
+pub whole_of_operation : (kept : List (Option ℕ)) (keys : List (List ℕ)) (n : ℕ) (ns : List ℕ) (f : ℕ) (o : Option ℕ) → o ≡ Some f
+    → MatchOption o (operation_in (get_or keys n []) ≡ None) (λ g. numbered_operation_key g ns ≡ whole_key kept keys n)
+    → numbered_operation_key f ns ≡ whole_key kept keys n
+whole_of_operation kept keys n ns f None is key = cc
+whole_of_operation kept keys n ns f (Some g) is key =
+    ap (λ (h : ℕ). numbered_operation_key h ns) (sym (same_Some g f is)) ∙ key

@@ -1,6 +1,5 @@
 -- The first rule that matches a term that is kept.
-use Rattle.std.specs.Prelude.{◌≡◌, ◌<◌, ℕ, true, Option, None, Some, List, [], Vec, length, slice_get, nat_lt, if◌then◌else◌}
-use Rattle.std.specs.declared.alloc.Global.{Global}
+use Rattle.std.specs.Prelude.{◌≡◌, ◌<◌, ℕ, true, Option, None, Some, List, [], length, slice_get, nat_lt, if◌then◌else◌}
 use Rattle.lotos_base.specs.Term.{Term}
 use Rattle.rewriting_theory.specs.Matching.{Matches}
 use Rattle.sort_terms.specs.ProfiledTerm.{bare}
@@ -68,7 +67,11 @@ BeginsAs f first t = (g : ℕ) × (first ≡ Some g) × (begins_with_heads f g t
 
 -- a rule that matches, with what its variables have
 abbrev pub Found : Type 0
-Found = ℕ × Vec (ℕ × ℕ) Global
+Found = ℕ × List (ℕ × ℕ)
+
+abbrev pub found_with : Option ℕ → List (ℕ × ℕ) → Option Found
+found_with None pairs = None
+found_with (Some rule) pairs = Some (rule, pairs)
 
 -- the one with the lesser number, if there are two
 abbrev pub earlier_of : Option Found → Option Found → Option Found

@@ -4,6 +4,7 @@ pub mod CellProps
 pub mod FirstRule
 pub mod FormsBelow
 pub mod Kept
+pub mod KeyView
 pub mod Made
 pub mod NumberSearch
 pub mod Numbered

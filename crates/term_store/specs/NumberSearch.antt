@@ -1,6 +1,6 @@
 -- How a pattern is matched with a term that is kept, by numbers: from left to right, with the first place of a variable
 -- deciding what is put for it.
-use Rattle.std.specs.Prelude.{ℕ, List, [], ◌∷◌, ◌++◌, Option, None, Some, nat_eq, if◌then◌else◌}
+use Rattle.std.specs.Prelude.{ℕ, List, [], ◌∷◌, ◌++◌, Bool, Option, None, Some, nat_eq, if◌then◌else◌}
 use Rattle.std.specs.Option.{option_and_then}
 use Rattle.std.proofs.Common.{get_or}
 use Rattle.sort_terms.specs.ProfiledTerm.{ProfiledTerm, ProfiledTerms, profiled_variable, profiled_node, no_profiled_terms, profiled_term_then}
@@ -15,6 +15,10 @@ number_under n (pair ∷ pairs) = if nat_eq pair.0 n then Some pair.1 else numbe
 abbrev pub number_bound : ℕ → ℕ → List (ℕ × ℕ) → Option ℕ → Option (List (ℕ × ℕ))
 number_bound n m found None = Some (found ++ (n, m) ∷ [])
 number_bound n m found (Some k) = if nat_eq k m then Some found else None
+
+-- the pairs, if the pattern fits
+abbrev pub found_if : Bool → List (ℕ × ℕ) → Option (List (ℕ × ℕ))
+found_if fits pairs = if fits then Some pairs else None
 
 -- the numbers of the arguments, where the operation has this number
 abbrev pub arguments_under : ℕ → Option (ℕ × List ℕ) → Option (List ℕ)

@@ -47,7 +47,7 @@ pub fn canonical(
     let number = number_of(alloc, &mut forms.shared, term.term())?;
     let form = chosen(alloc, rules, index, forms, number)?;
     Ok(ChosenNumber {
-        number: form,
+        number: form as usize,
         is_own: form == number,
     })
 }

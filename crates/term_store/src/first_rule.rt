@@ -15,40 +15,49 @@ ghost use Rattle.term_store.specs.FirstRule.{
   NoRule,
   NoneAmong,
   earlier_of,
+  found_with,
 };
 ghost use Rattle.term_store.specs.SharedView.{keys_in};
 
 use crate::matching::search;
 use crate::shared::SharedTerms;
+use crate::tasks::Lists;
 use lotos_base::NoMemory;
 use path_order::Rules;
-use std::alloc::Global;
+use std::mem::swap;
 use term_rewriter::first_index::FirstIndex;
 use term_rewriter::first_match::rule_at;
 
-/// The number of the first rule whose left side matches the term with the number, and what its
-/// variables have; or none where no left side does. Only rules with the operation at the head are
-/// tried, whose first argument does not begin with another operation than that of the term.
+/// The number of the first rule whose left side matches the term with the number, with what its
+/// variables have among the lists; or none where no left side does. Only rules with the operation
+/// at the head are tried, whose first argument does not begin with another operation than that of
+/// the term.
 pub fn first_rule(
-    alloc: Global,
     rules: &Rules,
     index: &FirstIndex,
     shared: &SharedTerms,
-    number: usize,
-) -> Result<Option<(usize, Vec<(u64, usize)>)>, NoMemory>
+    number: u32,
+    lists: &mut Lists,
+) -> Result<Option<usize>, NoMemory>
     requires index { IsIndexOf rules.now index.now }
     requires have { HaveTermsOf (signature_in rules.now) (keys_in shared.now) }
     requires within { number < length (keys_in shared.now) }
     ensures { IfOk result (λ o. MatchOption o (NoRule rules.now (keys_in shared.now) number)
-        (λ found. IsFirstRuleAt rules.now (keys_in shared.now) number found.0 found.1.items)) }
+        (λ rule. IsFirstRuleAt rules.now (keys_in shared.now) number rule lists.new.pairs.items)) }
 {
-    let Some((op, arguments)) = shared.operation(number) else {
+    let Some((op, arguments)) = shared.operation(number as usize) else {
         return Ok(None);
     };
-    let head = op as u32;
-    let begun = beginning(rules, index, shared, head, arguments);
-    let open = first_among(alloc, rules, shared, index.open.under(head), number)?;
-    Ok(earlier(open, first_among(alloc, rules, shared, begun, number)?))
+    let begun = beginning(rules, index, shared, op, arguments);
+    let open = first_among(
+        rules,
+        shared,
+        index.open.under(op),
+        number,
+        &mut lists.others,
+    )?;
+    let other = first_among(rules, shared, begun, number, &mut lists.pairs)?;
+    Ok(earlier(open, other, lists))
 }
 
 // The numbers of some rules, with all that have the operation at the head and whose first argument
@@ -58,7 +67,7 @@ fn beginning<'a>(
     index: &'a FirstIndex,
     shared: &SharedTerms,
     op: u32,
-    numbers: &[usize],
+    numbers: &[u32],
 ) -> &'a [usize]
     requires index { IsIndexOf rules.now index.now }
     requires have { HaveTermsOf (signature_in rules.now) (keys_in shared.now) }
@@ -89,7 +98,7 @@ fn begun_with<'a>(rules: &'a Rules, index: &'a FirstIndex, op: u32, first: u32) 
 }
 
 // The operation at the head of the first of these terms, if one is there.
-fn first_operation(rules: &Rules, shared: &SharedTerms, numbers: &[usize]) -> Option<u32>
+fn first_operation(rules: &Rules, shared: &SharedTerms, numbers: &[u32]) -> Option<u32>
     requires have { HaveTermsOf (signature_in rules.now) (keys_in shared.now) }
     requires below { AreBelow (length (keys_in shared.now)) numbers.now }
     ensures { result ≡ first_head (all_bare
@@ -98,55 +107,61 @@ fn first_operation(rules: &Rules, shared: &SharedTerms, numbers: &[usize]) -> Op
     if numbers.is_empty() {
         return None;
     }
-    match shared.operation(numbers[0]) {
+    match shared.operation(numbers[0] as usize) {
         None => None,
-        Some((op, _)) => Some(op as u32),
+        Some((op, _)) => Some(op),
     }
 }
 
-// The first of the rules with these numbers whose left side matches the term, and what its
+// The first of the rules with these numbers whose left side matches the term, with what its
 // variables have; or none where none of their left sides does.
 fn first_among(
-    alloc: Global,
     rules: &Rules,
     shared: &SharedTerms,
     candidates: &[usize],
-    number: usize,
-) -> Result<Option<(usize, Vec<(u64, usize)>)>, NoMemory>
+    number: u32,
+    pairs: &mut Vec<(u64, u32)>,
+) -> Result<Option<usize>, NoMemory>
     requires numbers { AreRuleNumbers rules.now candidates.now }
     requires have { HaveTermsOf (signature_in rules.now) (keys_in shared.now) }
     requires within { number < length (keys_in shared.now) }
     ensures { IfOk result (λ o. MatchOption o
         (NoneAmong rules.now (keys_in shared.now) number candidates.now)
-        (λ found. IsFirstAmong rules.now (keys_in shared.now) number candidates.now found.0
-        found.1.items)) }
+        (λ rule. IsFirstAmong rules.now (keys_in shared.now) number candidates.now rule
+        pairs.new.items)) }
 {
     for candidate in candidates {
         let rule = *candidate;
         let left = rule_at(rules, rule).left.term();
-        if let Some(pairs) = search(shared, left, number, Vec::new(alloc))? {
-            return Ok(Some((rule, pairs)));
+        pairs.clear();
+        if search(shared, left, number, pairs)? {
+            return Ok(Some(rule));
         }
     }
     Ok(None)
 }
 
-// The one of the two with the lesser number, if there are two.
-fn earlier(
-    one: Option<(usize, Vec<(u64, usize)>)>,
-    other: Option<(usize, Vec<(u64, usize)>)>,
-) -> Option<(usize, Vec<(u64, usize)>)>
-    ensures { result ≡ earlier_of one other }
+// The one of the two with the lesser number, if there are two; what its variables have is put into
+// the list of pairs.
+fn earlier(one: Option<usize>, other: Option<usize>, lists: &mut Lists) -> Option<usize>
+    ensures { found_with result lists.new.pairs.items
+        ≡ earlier_of (found_with one lists.old.others.items)
+        (found_with other lists.old.pairs.items) }
 {
     match one {
         None => other,
-        Some(found) => match other {
-            None => Some(found),
-            Some(rival) => if rival.0 < found.0 {
-                Some(rival)
-            } else {
-                Some(found)
-            },
+        Some(first) => match other {
+            None => {
+                swap(&mut lists.pairs, &mut lists.others);
+                Some(first)
+            }
+            Some(rival) => {
+                if rival < first {
+                    return Some(rival);
+                }
+                swap(&mut lists.pairs, &mut lists.others);
+                Some(first)
+            }
         },
     }
 }

@@ -13,7 +13,7 @@ use std::alloc::Global;
 pub struct Forms {
     /// The terms.
     pub shared: SharedTerms,
-    kept: Vec<Option<usize>>,
+    kept: Vec<Option<u32>>,
 }
 
 impl Forms {
@@ -29,18 +29,18 @@ impl Forms {
     }
 
     /// The number of the form that is kept for the term with this number, if one is.
-    pub fn form(&self, number: usize) -> Option<usize>
+    pub fn form(&self, number: u32) -> Option<u32>
         ensures { result ≡ kept_at self.now.kept.items number }
     {
-        if number < self.kept.len() {
-            self.kept[number]
+        if (number as usize) < self.kept.len() {
+            self.kept[number as usize]
         } else {
             None
         }
     }
 
     /// The number of the form that is kept for the term with this number, or that number itself.
-    pub fn form_or_same(&self, number: usize) -> usize
+    pub fn form_or_same(&self, number: u32) -> u32
         ensures { result ≡ form_or_same self.now.kept.items number }
     {
         match self.form(number) {
@@ -50,22 +50,22 @@ impl Forms {
     }
 
     /// Keeps the form of the term with this number.
-    pub fn keep(&mut self, number: usize, form: usize) -> Result<(), NoMemory>
+    pub fn keep(&mut self, number: u32, form: u32) -> Result<(), NoMemory>
         ensures terms { self.new.shared ≡ self.old.shared }
         ensures at_most { KeepsAtMost self.old.kept.items (λ n. n ≡ number) form
             self.new.kept.items }
         ensures kept { IfOk result (λ done. KeepsFor self.old.kept.items (λ n. n ≡ number)
             self.new.kept.items) }
     {
-        while self.kept.len() <= number {
+        while self.kept.len() <= number as usize {
             self.kept.push(None)?;
         }
-        self.kept[number] = Some(form);
+        self.kept[number as usize] = Some(form);
         Ok(())
     }
 
     /// Keeps the form of both terms.
-    pub fn keep_both(&mut self, term: usize, whole: usize, form: usize) -> Result<(), NoMemory>
+    pub fn keep_both(&mut self, term: u32, whole: u32, form: u32) -> Result<(), NoMemory>
         ensures terms { self.new.shared ≡ self.old.shared }
         ensures at_most { KeepsAtMost self.old.kept.items (λ n. (n ≡ term) ⊎ (n ≡ whole)) form
             self.new.kept.items }

@@ -8,6 +8,7 @@ pub mod first_rule;
 pub mod forms;
 pub mod heads;
 pub mod instances;
+pub mod key;
 pub mod matching;
 pub mod numbering;
 pub mod reading;

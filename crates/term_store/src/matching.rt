@@ -1,11 +1,11 @@
 //! The search for what makes a pattern a term that is kept.
 
 ghost use Rattle.sort_terms.specs.TermView.{all_profiled, profiled_of};
-ghost use Rattle.std.specs.Option.{option_map};
 ghost use Rattle.std.specs.Prelude.{◌≡◌, ◌<◌, IfOk, length};
 ghost use Rattle.term_store.specs.Cells.{AreBelow, AreCells};
 ghost use Rattle.term_store.specs.NumberSearch.{
   all_number_searched,
+  found_if,
   number_bound,
   number_searched,
   number_under,
@@ -16,20 +16,20 @@ use crate::shared::SharedTerms;
 use lotos_base::NoMemory;
 use sort_terms::Term;
 
-/// The pairs found before and those of the pattern's other variables, in the order in which they
-/// first stand there, or `None` where the pattern, with what its variables have, is not the term
-/// with the number.
+/// Whether the pattern, with what its variables have, is the term with the number. If so, the pairs
+/// of its other variables stand behind those found before, in the order in which the variables
+/// first stand in the pattern.
 #[cycle(search)]
 pub fn search(
     shared: &SharedTerms,
     pattern: &Term,
-    number: usize,
-    found: Vec<(u64, usize)>,
-) -> Result<Option<Vec<(u64, usize)>>, NoMemory>
+    number: u32,
+    found: &mut Vec<(u64, u32)>,
+) -> Result<bool, NoMemory>
     requires cells { AreCells 0 (keys_in shared.now) }
     requires within { number < length (keys_in shared.now) }
-    ensures { IfOk result (λ o. option_map (λ pairs. pairs.items) o
-        ≡ number_searched (keys_in shared.now) (profiled_of pattern.now) number found.items) }
+    ensures { IfOk result (λ fits. found_if fits found.new.items
+        ≡ number_searched (keys_in shared.now) (profiled_of pattern.now) number found.old.items) }
 {
     match pattern {
         Term::Var {
@@ -37,11 +37,11 @@ pub fn search(
             ..
         } => bind(*variable, number, found),
         Term::Node { op, arguments, .. } => {
-            match shared.operation(number) {
-                Some((head, numbers)) if head == *op as usize => {
+            match shared.operation(number as usize) {
+                Some((head, numbers)) if head == *op => {
                     search_all(shared, arguments.items(), numbers, found)
                 }
-                _ => Ok(None),
+                _ => Ok(false),
             }
         }
     }
@@ -52,49 +52,42 @@ pub fn search(
 fn search_all(
     shared: &SharedTerms,
     patterns: &Vec<Term>,
-    numbers: &[usize],
-    mut found: Vec<(u64, usize)>,
-) -> Result<Option<Vec<(u64, usize)>>, NoMemory>
+    numbers: &[u32],
+    found: &mut Vec<(u64, u32)>,
+) -> Result<bool, NoMemory>
     requires cells { AreCells 0 (keys_in shared.now) }
     requires within { AreBelow (length (keys_in shared.now)) numbers.now }
-    ensures { IfOk result (λ o. option_map (λ pairs. pairs.items) o
+    ensures { IfOk result (λ fits. found_if fits found.new.items
         ≡ all_number_searched (keys_in shared.now) (all_profiled patterns.now.items) numbers.now
-        found.items) }
+        found.old.items) }
 {
     if patterns.len() != numbers.len() {
-        return Ok(None);
+        return Ok(false);
     }
     for i in 0..patterns.len() {
-        let Some(more) = search(shared, &patterns[i], numbers[i], found)? else {
-            return Ok(None);
-        };
-        found = more;
+        if !search(shared, &patterns[i], numbers[i], found)? {
+            return Ok(false);
+        }
     }
-    Ok(Some(found))
+    Ok(true)
 }
 
 // The pairs at a variable: the term has to be what the variable has already, if it has something.
-fn bind(
-    variable: u64,
-    number: usize,
-    mut found: Vec<(u64, usize)>,
-) -> Result<Option<Vec<(u64, usize)>>, NoMemory>
-    ensures { IfOk result (λ o. option_map (λ pairs. pairs.items) o
-        ≡ number_bound variable number found.items
-        (number_under variable found.items)) }
+fn bind(variable: u64, number: u32, found: &mut Vec<(u64, u32)>) -> Result<bool, NoMemory>
+    ensures { IfOk result (λ fits. found_if fits found.new.items
+        ≡ number_bound variable number found.old.items (number_under variable found.old.items)) }
 {
     match value_of(found.as_slice(), variable) {
         None => {
             found.push((variable, number))?;
-            Ok(Some(found))
+            Ok(true)
         }
-        Some(known) if known == number => Ok(Some(found)),
-        Some(_) => Ok(None),
+        Some(known) => Ok(known == number),
     }
 }
 
 /// What the first pair with the variable has.
-pub fn value_of(found: &[(u64, usize)], variable: u64) -> Option<usize>
+pub fn value_of(found: &[(u64, u32)], variable: u64) -> Option<u32>
     ensures { result ≡ number_under variable found.now }
 {
     for (known, number) in found {

@@ -28,7 +28,7 @@ ghost use Rattle.term_store.specs.OnTheWay.{
 };
 ghost use Rattle.term_store.specs.SharedView.{keys_in};
 
-use crate::instances::{begin_key, variable};
+use crate::instances::variable;
 use crate::shared::SharedTerms;
 use lotos_base::NoMemory;
 use sort_terms::{Op, Term};
@@ -47,29 +47,28 @@ pub enum Numbering<'a> {
 
 /// The number of the term, however deep it is. The term and its parts are kept if they were not
 /// before.
-pub fn number_of(alloc: Global, shared: &mut SharedTerms, term: &Term) -> Result<usize, NoMemory>
+pub fn number_of(alloc: Global, shared: &mut SharedTerms, term: &Term) -> Result<u32, NoMemory>
     ensures takes { TakesIn (profiled_of term.now) (keys_in shared.old) (keys_in shared.new) }
     ensures number { IfOk result (λ n. IsNumberOfTerm (profiled_of term.now) (keys_in shared.old)
         (keys_in shared.new) n) }
 {
     let mut left = Vec::new(alloc);
     let mut made = Vec::new(alloc);
-    let mut key = Vec::new(alloc);
-    begin(alloc, shared, term, &mut left, &mut made)?;
+    let mut numbers = Vec::new(alloc);
+    begin(shared, term, &mut left, &mut made)?;
     while let Some(next) = left.pop() {
-        number_next(alloc, shared, next, &mut left, &mut made, &mut key)?;
+        number_next(shared, next, &mut left, &mut made, &mut numbers)?;
     }
     made.pop().ok_or(NoMemory)
 }
 
 // Does what comes next, with a list for the keys of operations.
 fn number_next<'a>(
-    alloc: Global,
     shared: &mut SharedTerms,
     next: Numbering<'a>,
     left: &mut Vec<Numbering<'a>>,
-    made: &mut Vec<usize>,
-    key: &mut Vec<usize>,
+    made: &mut Vec<u32>,
+    numbers: &mut Vec<u32>,
 ) -> Result<(), NoMemory>
     ensures way { OnOk result (KeepsWay []
         (halfway_of (keys_in shared.old) (left.old.items ++ next.entry ∷ []) made.old.items)
@@ -81,9 +80,9 @@ fn number_next<'a>(
         < numbering_turns next.entry + numbering_turns_of left.old.items) }
 {
     match next {
-        Numbering::First(terms, count) => begin_last(alloc, shared, terms, count, left, made),
+        Numbering::First(terms, count) => begin_last(shared, terms, count, left, made),
         Numbering::Head(op, _, count) => {
-            let number = number_above(alloc, shared, op, count, made, key)?;
+            let number = number_above(shared, op, count, made, numbers)?;
             Ok(made.push(number)?)
         }
     }
@@ -91,12 +90,11 @@ fn number_next<'a>(
 
 // Begins with the last of the first terms, and puts those before it on the list.
 fn begin_last<'a>(
-    alloc: Global,
     shared: &mut SharedTerms,
     terms: &'a Vec<Term>,
     count: usize,
     left: &mut Vec<Numbering<'a>>,
-    made: &mut Vec<usize>,
+    made: &mut Vec<u32>,
 ) -> Result<(), NoMemory>
     ensures way { OnOk result (KeepsWay (map profiled_of (take count terms.now.items))
         (halfway_of (keys_in shared.old) left.old.items made.old.items)
@@ -114,16 +112,15 @@ fn begin_last<'a>(
         return Err(NoMemory);
     };
     left.push(Numbering::First(terms, before))?;
-    begin(alloc, shared, term, left, made)
+    begin(shared, term, left, made)
 }
 
 // Numbers a variable, and puts what is to be done for an operation on the list.
 fn begin<'a>(
-    alloc: Global,
     shared: &mut SharedTerms,
     term: &'a Term,
     left: &mut Vec<Numbering<'a>>,
-    made: &mut Vec<usize>,
+    made: &mut Vec<u32>,
 ) -> Result<(), NoMemory>
     ensures way { OnOk result (KeepsWay (profiled_of term.now ∷ [])
         (halfway_of (keys_in shared.old) left.old.items made.old.items)
@@ -135,7 +132,7 @@ fn begin<'a>(
 {
     match term {
         Term::Var { number, sort } => {
-            let known = variable(alloc, shared, *number, *sort)?;
+            let known = variable(shared, *number, *sort)?;
             Ok(made.push(known)?)
         }
         Term::Node {
@@ -153,36 +150,34 @@ fn begin<'a>(
 
 // The number of the operation on the terms that got the last numbers, so many, which are taken off.
 fn number_above(
-    alloc: Global,
     shared: &mut SharedTerms,
     op: u32,
     count: usize,
-    made: &mut Vec<usize>,
-    key: &mut Vec<usize>,
-) -> Result<usize, NoMemory>
+    made: &mut Vec<u32>,
+    numbers: &mut Vec<u32>,
+) -> Result<u32, NoMemory>
     ensures more { HasOneMore (keys_in shared.old)
         (numbered_operation_key op (take count (reverse made.old.items))) (keys_in shared.new) }
     ensures stands { IfOk result (λ n. KeyStandsAt (keys_in shared.new)
         (numbered_operation_key op (take count (reverse made.old.items))) n) }
     ensures rest { OnOk result (reverse made.new.items ≡ drop count (reverse made.old.items)) }
 {
-    key.truncate(0);
-    begin_key(key, op as usize)?;
-    take_onto(key, count, made)?;
-    shared.number_copied(alloc, key)
+    numbers.clear();
+    take_onto(numbers, count, made)?;
+    shared.number_on(op, numbers.as_slice())
 }
 
-// Puts so many of the last numbers at the end of the key, the last one first.
-fn take_onto(key: &mut Vec<usize>, count: usize, made: &mut Vec<usize>) -> Result<(), NoMemory>
+// Puts so many of the last numbers at the end of the list, the last one first.
+fn take_onto(numbers: &mut Vec<u32>, count: usize, made: &mut Vec<u32>) -> Result<(), NoMemory>
     ensures taken { OnOk result
-        (key.new.items ≡ key.old.items ++ take count (reverse made.old.items)) }
+        (numbers.new.items ≡ numbers.old.items ++ take count (reverse made.old.items)) }
     ensures rest { OnOk result (reverse made.new.items ≡ drop count (reverse made.old.items)) }
 {
     for _index in 0..count {
         let Some(number) = made.pop() else {
             return Err(NoMemory);
         };
-        key.push(number)?;
+        numbers.push(number)?;
     }
     Ok(())
 }

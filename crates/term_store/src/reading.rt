@@ -106,7 +106,7 @@ fn make(
             None => Ok(()),
             Some((op, arguments)) => {
                 let parts = taken(alloc, arguments.len(), made)?;
-                let term = Term::node(op as u32, profiles[op].clone()?, parts)?;
+                let term = Term::node(op, profiles[op as usize].clone()?, parts)?;
                 Ok(made.push(term)?)
             }
         },
@@ -144,11 +144,11 @@ fn begin(
 }
 
 // Puts the making of these terms on the list, the first one first.
-fn add_terms(numbers: &[usize], left: &mut Vec<Making>) -> Result<(), NoMemory>
+fn add_terms(numbers: &[u32], left: &mut Vec<Making>) -> Result<(), NoMemory>
     ensures { OnOk result (left.new.items ≡ left.old.items ++ map term_making numbers.now) }
 {
     for number in numbers {
-        left.push(Making::Term(*number))?;
+        left.push(Making::Term(*number as usize))?;
     }
     Ok(())
 }
@@ -160,9 +160,8 @@ fn read_variable(rules: &Rules, shared: &SharedTerms, number: usize) -> Term
     requires variable { operation_in (get_or (keys_in shared.now) number []) ≡ None }
     ensures { profiled_of result ≡ term_at (signature_in rules.now) (keys_in shared.now) number }
 {
-    let key = shared.key(number);
-    Term::Var {
-        number: key[1] as u64,
-        sort: key[2] as u32,
+    match shared.key(number).variable() {
+        Some((number, sort)) => Term::Var { number, sort },
+        None => Term::Var { number: 0, sort: 0 },
     }
 }

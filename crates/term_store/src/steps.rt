@@ -10,21 +10,21 @@ ghost use Rattle.term_store.specs.Turns.{CannotStep, StepsTo};
 use crate::first_rule::first_rule;
 use crate::instances::instance;
 use crate::shared::SharedTerms;
+use crate::tasks::Lists;
 use lotos_base::NoMemory;
 use path_order::Rules;
-use std::alloc::Global;
 use term_rewriter::first_index::FirstIndex;
 use term_rewriter::first_match::rule_at;
 
 /// The number of what the first rule that matches the term at its root makes of it, or none where
 /// no rule does.
 pub fn step(
-    alloc: Global,
     rules: &Rules,
     index: &FirstIndex,
     shared: &mut SharedTerms,
-    number: usize,
-) -> Result<Option<usize>, NoMemory>
+    lists: &mut Lists,
+    number: u32,
+) -> Result<Option<u32>, NoMemory>
     requires index { IsIndexOf rules.now index.now }
     requires have { HaveTermsOf (signature_in rules.now) (keys_in shared.old) }
     requires within { number < length (keys_in shared.old) }
@@ -34,11 +34,11 @@ pub fn step(
         (CannotStep rules.now (keys_in shared.new) number)
         (λ next. StepsTo rules.now (keys_in shared.new) number next)) }
 {
-    match first_rule(alloc, rules, index, shared, number)? {
+    match first_rule(rules, index, shared, number, lists)? {
         None => Ok(None),
-        Some((rule, pairs)) => {
+        Some(rule) => {
             let right = rule_at(rules, rule).right.term();
-            Ok(Some(instance(alloc, shared, right, pairs.as_slice())?))
+            Ok(Some(instance(shared, right, lists.pairs.as_slice(), &mut lists.numbers)?))
         }
     }
 }

@@ -2,7 +2,6 @@
 
 ghost use Rattle.std.specs.Prelude.{◌≡◌, ◌++◌, ◌∷◌, ◌<◌, [], IfOk, Some, length};
 ghost use Rattle.term_rewriter.specs.FirstIndexView.{IsIndexOf};
-ghost use Rattle.term_store.specs.Cells.{AreCells};
 ghost use Rattle.term_store.specs.Kept.{kept_at};
 ghost use Rattle.term_store.specs.SharedView.{keys_in};
 ghost use Rattle.term_store.specs.Tasks.{begun_tasks, form_task, form_tasks};
@@ -11,7 +10,7 @@ ghost use Rattle.term_store.specs.declared.tasks.Task.TheVariants.{Apply};
 
 use crate::forms::Forms;
 use crate::steps::step;
-use crate::tasks::Task;
+use crate::tasks::{Lists, Task};
 use crate::wholes::whole;
 use lotos_base::NoMemory;
 use path_order::Rules;
@@ -24,28 +23,29 @@ pub fn chosen(
     rules: &Rules,
     index: &FirstIndex,
     forms: &mut Forms,
-    number: usize,
-) -> Result<usize, NoMemory>
+    number: u32,
+) -> Result<u32, NoMemory>
     requires index { IsIndexOf rules.now index.now }
     requires sound { AreSound rules.now forms.old }
     requires within { number < length (keys_in forms.old.shared) }
     ensures stay { StaySound rules.now forms.old forms.new }
     ensures kept { IfOk result (λ form. kept_at forms.new.kept.items number ≡ Some form) }
 {
+    let mut lists = Lists::new(alloc);
     let mut tasks = Vec::new(alloc);
     tasks.push(Task::Form(number))?;
     while let Some(task) = tasks.pop() {
-        turn(alloc, rules, index, forms, &mut tasks, task)?;
+        turn(rules, index, forms, &mut lists, &mut tasks, task)?;
     }
     Ok(forms.form_or_same(number))
 }
 
 // Does the task; what is to be done before is put behind the other tasks.
 fn turn(
-    alloc: Global,
     rules: &Rules,
     index: &FirstIndex,
     forms: &mut Forms,
+    lists: &mut Lists,
     tasks: &mut Vec<Task>,
     task: Task,
 ) -> Result<(), NoMemory>
@@ -58,15 +58,14 @@ fn turn(
 {
     match task {
         Task::Form(number) => begin(forms, tasks, number),
-        Task::Apply(number) => apply(alloc, rules, index, forms, tasks, number),
+        Task::Apply(number) => apply(rules, index, forms, lists, tasks, number),
         Task::Keep { term, whole, next } => forms.keep_both(term, whole, forms.form_or_same(next)),
     }
 }
 
 // Puts the tasks of finding the form of the term behind the others, where it is not kept.
-fn begin(forms: &Forms, tasks: &mut Vec<Task>, number: usize) -> Result<(), NoMemory>
-    requires cells { AreCells 0 (keys_in forms.now.shared) }
-    requires within { number < length (keys_in forms.now.shared) }
+fn begin(forms: &Forms, tasks: &mut Vec<Task>, number: u32) -> Result<(), NoMemory>
+    requires { number < length (keys_in forms.now.shared) }
     ensures { IfOk result (λ done. tasks.new.items ≡ tasks.old.items
         ++ begun_tasks forms.now.kept.items (keys_in forms.now.shared) number
         (kept_at forms.now.kept.items number)) }
@@ -75,7 +74,7 @@ fn begin(forms: &Forms, tasks: &mut Vec<Task>, number: usize) -> Result<(), NoMe
         Some(_) => Ok(()),
         None => {
             tasks.push(Task::Apply(number))?;
-            match forms.shared.operation(number) {
+            match forms.shared.operation(number as usize) {
                 Some((_, arguments)) => add_tasks(forms, tasks, arguments),
                 None => Ok(()),
             }
@@ -84,7 +83,7 @@ fn begin(forms: &Forms, tasks: &mut Vec<Task>, number: usize) -> Result<(), NoMe
 }
 
 // Puts the tasks of finding the forms of the terms behind the others, where they are not kept.
-fn add_tasks(forms: &Forms, tasks: &mut Vec<Task>, numbers: &[usize]) -> Result<(), NoMemory>
+fn add_tasks(forms: &Forms, tasks: &mut Vec<Task>, numbers: &[u32]) -> Result<(), NoMemory>
     ensures { IfOk result (λ done. tasks.new.items ≡ tasks.old.items
         ++ form_tasks forms.now.kept.items numbers.now) }
 {
@@ -95,7 +94,7 @@ fn add_tasks(forms: &Forms, tasks: &mut Vec<Task>, numbers: &[usize]) -> Result<
 }
 
 // The same for one term.
-fn add_task(forms: &Forms, tasks: &mut Vec<Task>, number: usize) -> Result<(), NoMemory>
+fn add_task(forms: &Forms, tasks: &mut Vec<Task>, number: u32) -> Result<(), NoMemory>
     ensures { IfOk result (λ done. tasks.new.items ≡ tasks.old.items
         ++ form_task number (kept_at forms.now.kept.items number)) }
 {
@@ -108,12 +107,12 @@ fn add_task(forms: &Forms, tasks: &mut Vec<Task>, number: usize) -> Result<(), N
 // Finds the form of an operation, for whose arguments forms are kept: that of the operation on
 // these forms.
 fn apply(
-    alloc: Global,
     rules: &Rules,
     index: &FirstIndex,
     forms: &mut Forms,
+    lists: &mut Lists,
     tasks: &mut Vec<Task>,
-    number: usize,
+    number: u32,
 ) -> Result<(), NoMemory>
     requires index { IsIndexOf rules.now index.now }
     requires sound { AreSound rules.now forms.old }
@@ -122,23 +121,23 @@ fn apply(
     ensures advances { IfOk result (λ done. Advances rules.now forms.old
         (tasks.old.items ++ Apply number ∷ []) forms.new tasks.new.items) }
 {
-    let whole = whole(alloc, forms, number)?;
+    let whole = whole(forms, &mut lists.numbers, number)?;
     match forms.form(whole) {
         Some(form) => forms.keep(number, form),
-        None => rewrite(alloc, rules, index, forms, tasks, number, whole),
+        None => rewrite(rules, index, forms, lists, tasks, number, whole),
     }
 }
 
 // Finds the form of a term by way of the operation on the forms of its arguments: that operation
 // itself where no rule matches it, else the form of what the first rule makes of it.
 fn rewrite(
-    alloc: Global,
     rules: &Rules,
     index: &FirstIndex,
     forms: &mut Forms,
+    lists: &mut Lists,
     tasks: &mut Vec<Task>,
-    term: usize,
-    whole: usize,
+    term: u32,
+    whole: u32,
 ) -> Result<(), NoMemory>
     requires index { IsIndexOf rules.now index.now }
     requires sound { AreSound rules.now forms.old }
@@ -148,7 +147,7 @@ fn rewrite(
     ensures advances { IfOk result (λ done. Advances rules.now forms.old
         (tasks.old.items ++ Apply term ∷ []) forms.new tasks.new.items) }
 {
-    match step(alloc, rules, index, &mut forms.shared, whole)? {
+    match step(rules, index, &mut forms.shared, lists, whole)? {
         None => forms.keep_both(term, whole, whole),
         Some(next) => {
             tasks.push(Task::Keep { term, whole, next })?;

@@ -1,17 +1,8 @@
-use Rattle.std.proofs.Common.{rules, arith, ◌<◌, length, get_or}
+use Rattle.std.proofs.Common.{arith, ◌<◌, length}
 use Rattle.path_order.specs.RulesView.{signature_in}
 use Rattle.term_store.specs.SharedView.{keys_in}
-use Rattle.term_store.proofs.FirstRuleLemmas.{first_variable, first_is, operation_fits}
-use Rattle.term_store.proofs.SearchLemmas.{member_below}
+use Rattle.term_store.proofs.FirstRuleLemmas.{first_variable, first_is}
 use Rattle.term_store.proofs.first_rule.first_operation.Goals as goal
-
-pub overflow_cast-result : goal.overflow_cast-result
-overflow_cast-result c =
-    let some : 0 < length c.args.numbers.now = grind arith in
-    let fits = operation_fits c.args.rules.now (keys_in c.args.shared.now) (get_or c.args.numbers.now 0 0) c.in-Some.op
-    c.in-Some.field-0-1.now c.requires.have
-    (member_below (length (keys_in c.args.shared.now)) c.args.numbers.now 0 0 c.requires.below some) c.in-Some.ensures in
-    search (rules, fits)
 
 pub returns-in-None : goal.returns-in-None
 returns-in-None c =

@@ -9,7 +9,7 @@ use Rattle.term_store.proofs.matching.+search.Goals as goal
 
 pub search_all-returns-then-len-numbers : goal.search_all-returns-then-len-numbers
 search_all-returns-then-len-numbers t c =
-    counts_differ (keys_in c.args.shared.now) c.args.patterns.now.items c.args.numbers.now c.args.found.items
+    counts_differ (keys_in c.args.shared.now) c.args.patterns.now.items c.args.numbers.now c.args.found.now.items
     (λ same. c.if-len-numbers.true (c.len.ensures ∙ c.args.patterns.now.ok.0 ∙ same))
 
 pub search-search_all-requires : goal.search-search_all-requires

@@ -1,4 +1,4 @@
-use Rattle.std.proofs.Common.{rules, arith, ◌<◌, ◌+◌, ◌∙◌, ap, length, subst, sym}
+use Rattle.std.proofs.Common.{arith, ◌<◌, ◌+◌, ◌∙◌, ap, length, subst, sym}
 use Rattle.std.proofs.lemmas.Result.{on_ok_weaker}
 use Rattle.sort_terms.specs.MadeTerms.{made_of}
 use Rattle.sort_terms.specs.TermView.{profiled_of}
@@ -6,7 +6,6 @@ use Rattle.path_order.specs.RulesView.{signature_in}
 use Rattle.term_store.specs.Made.{all_made, number_of_making, making_turns, making_turns_of, with_made, with_made_operation}
 use Rattle.term_store.specs.SharedView.{keys_in}
 use Rattle.term_store.specs.declared.reading.Making.{Making}
-use Rattle.term_store.proofs.FirstRuleLemmas.{operation_fits}
 use Rattle.term_store.proofs.MadeLemmas.{operation_made}
 use Rattle.term_store.proofs.ReadLemmas.{profile_inside}
 use Rattle.term_store.proofs.reading.make.Goals as goal
@@ -31,8 +30,8 @@ returns-in-Term-clause-less c =
     + making_turns_of (signature_in c.args.rules.now) (keys_in c.args.shared.now) c.args.left.now.items) (sym c.in-Term.is) h)
     c.begin.ensures.less
 
-pub operation-requires-clause-within : goal.operation-requires-clause-within
-operation-requires-clause-within c =
+pub operation-requires : goal.operation-requires
+operation-requires c =
     subst (λ (next : Making). number_of_making next < length (keys_in c.args.shared.now)) c.in-Operation.is c.requires.within
 
 pub returns-in-None-clause-same : goal.returns-in-None-clause-same
@@ -58,14 +57,6 @@ index-requires c =
     let inside = profile_inside c.args.rules.now (keys_in c.args.shared.now) c.in-Operation.number c.in-Some.op c.in-Some.arguments.now
     c.args.profiles.now.items c.requires.profiled c.requires.have within c.in-Some.ensures in
     omega (arith, inside, c.args.profiles.now.ok.0)
-
-pub overflow_cast-op : goal.overflow_cast-op
-overflow_cast-op c =
-    let within =
-    subst (λ (next : Making). number_of_making next < length (keys_in c.args.shared.now)) c.in-Operation.is c.requires.within in
-    let fits = operation_fits c.args.rules.now (keys_in c.args.shared.now) c.in-Operation.number c.in-Some.op c.in-Some.arguments.now
-    c.requires.have within c.in-Some.ensures in
-    search (rules, fits)
 
 pub returns-in_ok-push-in-Some-clause-same : goal.returns-in_ok-push-in-Some-clause-same
 returns-in_ok-push-in-Some-clause-same c =

@@ -4,8 +4,8 @@ use Rattle.term_store.specs.declared.tasks.Task.TheVariants.{Apply}
 use Rattle.term_store.proofs.TurnLemmas.{last_ready, whole_stays, whole_number, whole_ready, stay_on, advances_by_whole, form_sound, form_turn_of_whole}
 use Rattle.term_store.proofs.turns.apply.Goals as goal
 
-pub whole-requires-clause-within : goal.whole-requires-clause-within
-whole-requires-clause-within c =
+pub whole-requires : goal.whole-requires
+whole-requires c =
     (last_ready c.args.rules.now c.args.forms.now c.args.tasks.now.items (Apply c.args.number) c.requires.ready).0
 
 pub returns-in_err-whole-clause-stay : goal.returns-in_err-whole-clause-stay

@@ -6,8 +6,8 @@ use Rattle.term_store.specs.Turns.{Advances, CanBeDone}
 use Rattle.term_store.proofs.TurnLemmas.{last_ready, form_turn, handed_sound, handed_turn}
 use Rattle.term_store.proofs.turns.turn.Goals as goal
 
-pub begin-requires-clause-within : goal.begin-requires-clause-within
-begin-requires-clause-within c =
+pub begin-requires : goal.begin-requires
+begin-requires c =
     last_ready c.args.rules.now c.args.forms.now c.args.tasks.now.items (Form c.in-Form.number)
     (subst (λ (t : Task). CanBeDone c.args.rules.now c.args.forms.now (c.args.tasks.now.items ++ t ∷ [])) c.in-Form.is c.requires.ready)
 
