@@ -5,7 +5,7 @@ use Rattle.syntax_trees.specs.WrittenDefinition.{WrittenSpecification}
 use Rattle.syntax_trees.specs.TakenItems.{items_of_specification}
 use Rattle.behaviour_semantics.specs.Behaviour.{Specification}
 use Rattle.behaviour_semantics.specs.WellFormed.{Every}
-use Rattle.flat_sentences.specs.HandedOn.{IsWordSpelling}
+use Rattle.session_laws.specs.TextNames.{IsWordSpelling}
 use Rattle.lotos_top.specs.HandedOn.{Comes, goes_on, unread, stops, wants_memory, Gathers, comes_of, StandsFor, GotFile, Gathered}
 use Rattle.lotos_top.specs.HandedOn.{GatheringOutcome, all_gathered, faulty, without_file, memory_wanted, Becomes, nothing_yet, item}
 use Rattle.type_definitions.specs.DeclaredTypes.{types_of}

@@ -16,8 +16,10 @@ use Rattle.lotos_top.specs.Opening.{SessionBegins, opening_text}
 use Rattle.lotos_top.specs.Parts.{Finds, OpensAsked}
 use Rattle.session_laws.specs.SameBases.{AreSameBases}
 use Rattle.session_laws.specs.SameChecksLaws.{start_over}
-use Rattle.flat_sentences.specs.HandedOn.{AreSameSpecifications, shown_label, label_text, menu_text}
-use Rattle.flat_sentences.specs.SameSpelling.{AreDataSpelledAlike}
+use Rattle.declaration_laws.specs.SameSpecification.{AreSameSpecifications}
+use Rattle.session_histories.specs.Replay.{shown_label}
+use Rattle.printed_texts.specs.MenuText.{label_text, menu_text}
+use Rattle.session_laws.specs.SameSpelling.{AreDataSpelledAlike}
 use Rattle.session_laws.proofs.SameMenus.{turned}
 use Rattle.session_laws.proofs.SameOrders.{opened_over}
 use Rattle.session_laws.proofs.SameStarts.{starts_over, start_fault_over}

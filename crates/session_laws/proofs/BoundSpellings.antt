@@ -22,8 +22,9 @@ use Rattle.scope_parts.specs.Choices.{GateChoice, ParChoice, under_gates, under_
 use Rattle.scope_parts.specs.Behaviours.{SignIs, BehaviourIs}
 use Rattle.scope_parts.specs.Definitions.{Heading, DefinitionIs, InnerIs, InnersAre, SpecificationIs}
 use Rattle.scope_parts.proofs.FormedLists.{same_resolved}
-use Rattle.flat_sentences.specs.HandedOn.{IsWordSpelling, names_of_variables, bound_names}
-use Rattle.flat_sentences.proofs.HandedOn.{beside_there}
+use Rattle.session_histories.specs.BoundNames.{names_of_variables, bound_names}
+use Rattle.session_laws.specs.TextNames.{IsWordSpelling}
+use Rattle.declaration_laws.proofs.ScopeLemmas.{beside_there}
 use Rattle.session_laws.specs.PrintedStates.{IsNamedProcess}
 use Rattle.session_laws.proofs.VariableSpellings.{IsVariableSpelled, IsOfferSpelled, IsLetSpelled, DeclaresWords, AreVariablesSpelled, IsInnerNamed, AreInnersNamed, IsTreeNamed}
 

@@ -12,11 +12,12 @@ use Rattle.behaviour_semantics.specs.WellFormed.{Every}
 use Rattle.behaviour_semantics.proofs.ListLemmas.{Every-append}
 use Rattle.scope_parts.specs.Numbering.{asked_for, accepted}
 use Rattle.scope_parts.specs.Terms.{let_names}
-use Rattle.flat_sentences.proofs.HandedOn.{declarations_have_the_next_number}
-use Rattle.flat_sentences.specs.HandedOn.{IsWordSpelling, declared_variables_in, inner_variables, inners_variables, declared_variables}
-use Rattle.flat_sentences.specs.HandedOn.{all_variables_of, Follow, HasVariableNumber}
-use Rattle.flat_sentences.specs.FlatTextLaws.{HasSpecificationNames}
-use Rattle.flat_sentences.specs.BehaviourTextLaws.{IsVariableNamed}
+use Rattle.declaration_laws.proofs.NumberLemmas.{declarations_have_the_next_number}
+use Rattle.declaration_laws.specs.DeclarationOrder.{declared_variables_in, inner_variables, inners_variables, declared_variables}
+use Rattle.session_laws.specs.TextNames.{IsWordSpelling}
+use Rattle.declaration_laws.specs.DeclarationOrder.{all_variables_of, Follow, HasVariableNumber}
+use Rattle.session_laws.specs.FlatTextLaws.{HasSpecificationNames}
+use Rattle.session_laws.specs.BehaviourTextLaws.{IsVariableNamed}
 use Rattle.session_laws.specs.PrintedStates.{IsNamedProcess}
 use Rattle.session_laws.proofs.AcceptedNames.{gates_of_tree}
 use Rattle.session_laws.proofs.AcceptedParts.{StandsOn}

@@ -12,8 +12,9 @@ use Rattle.sort_terms.specs.ReadingOutcome.{one_name, unknown_in, SortedTerm, Is
 use Rattle.behaviour_semantics.specs.WellFormed.{Every}
 use Rattle.behaviour_semantics.proofs.ListLemmas.{Every-append}
 use Rattle.sort_terms.proofs.OutcomeLemmas.{is_reading}
-use Rattle.flat_sentences.specs.HandedOn.{term_depth, depth_among}
-use Rattle.flat_sentences.proofs.HandedOn.{IsShallow, shallow_parts, term_within}
+use Rattle.session_laws.specs.TermDepth.{term_depth, depth_among}
+use Rattle.session_laws.proofs.DepthLemmas.{IsShallow}
+use Rattle.session_laws.proofs.TermReadDepths.{shallow_parts, term_within}
 use Rattle.type_definitions.specs.DeclaredTypes.{DeclaredType}
 use Rattle.type_definitions.specs.Images.{term_image, terms_image, equation_image}
 use Rattle.type_definitions.specs.Presentation.{Presentation, nothing, with_new, is_same_equation}
@@ -24,7 +25,7 @@ use Rattle.type_definitions.specs.Extension.{extended, asked_of}
 use Rattle.type_definitions.specs.Actualisation.{Actualising, is_formal, actualisation, actualised_sort, actualised_operation}
 use Rattle.type_definitions.specs.ActualisationFaults.{actualising_of}
 use Rattle.type_definitions.specs.Flattened.{presentation_named, mention_of, mentions_with, IsPresentation, ArePresented, all_presented, next_presented, declared_with, without_formals, types_at, IsFlattening}
-use Rattle.flat_sentences.proofs.Numbered.{declarations_keep}
+use Rattle.session_laws.proofs.Numbered.{declarations_keep}
 use Rattle.session_laws.proofs.FlattenedNames.{new_every, mapped_every, ordered_every}
 
 -- ---- Terms

@@ -10,14 +10,21 @@ use Rattle.lotos_base.specs.Limits.{text_limit}
 use Rattle.lotos_base.specs.Signature.{Signature, Sort, Operation}
 use Rattle.lotos_base.specs.Sorting.{head_sort_of}
 use Rattle.behaviour_semantics.specs.Behaviour.{Process, Specification}
-use Rattle.flat_sentences.specs.DataLaws.{HasFewVariables}
-use Rattle.flat_sentences.specs.HandedOn.{line, sorts_lines, operation_line, operations_lines, equations_lines, equation_line, for_all}
-use Rattle.flat_sentences.specs.HandedOn.{sorted_variable, sort_if_any, data_lines, data_text, given_names, free_names}
-use Rattle.flat_sentences.specs.HandedOn.{equation_names, operation_names, variables_under_names, renamed_variables, least_free, heading}
-use Rattle.flat_sentences.specs.HandedOn.{process_lines, processes_lines, where_lines, flat_naming, flat_text, Naming, process_names}
-use Rattle.flat_sentences.specs.HandedOn.{behaviour_text, commas, after_commas, term_text}
-use Rattle.flat_sentences.proofs.Given.{sort_within}
-use Rattle.flat_sentences.proofs.HandedOn.{each_given}
+use Rattle.session_laws.specs.DataLaws.{HasFewVariables}
+use Rattle.flat_text.specs.DataText.{line, sorts_lines, operation_line, operations_lines, equations_lines, equation_line, for_all}
+use Rattle.flat_text.specs.DataText.{sorted_variable, sort_if_any, data_lines, data_text}
+use Rattle.flat_text.specs.GivenNames.{given_names}
+use Rattle.flat_text.specs.EquationNames.{free_names}
+use Rattle.flat_text.specs.EquationNames.{equation_names, operation_names, variables_under_names, renamed_variables}
+use Rattle.flat_text.specs.FreeNames.{least_free}
+use Rattle.flat_text.specs.FlatText.{heading}
+use Rattle.flat_text.specs.FlatText.{process_lines, processes_lines, where_lines, flat_naming, flat_text}
+use Rattle.printed_texts.specs.BehaviourText.{Naming, process_names}
+use Rattle.printed_texts.specs.BehaviourText.{behaviour_text}
+use Rattle.printed_texts.specs.Brackets.{commas, after_commas}
+use Rattle.printed_texts.specs.TermText.{term_text}
+use Rattle.session_laws.proofs.Given.{sort_within}
+use Rattle.flat_text.proofs.GivenApart.{each_given}
 
 -- ---- Lists
 

@@ -3,7 +3,8 @@ use Rattle.std.proofs.Common.{◌≡◌, ◌≤◌, ◌+◌, ℕ, zero, suc, Lis
 use Rattle.std.specs.Prelude.{option_map}
 use Rattle.lotos_base.specs.Limits.{text_limit}
 use Rattle.lotos_base.specs.Outside.{Texts}
-use Rattle.flat_sentences.specs.HandedOn.{flat_text, NoDisagreementIsAgreement}
+use Rattle.flat_text.specs.FlatText.{flat_text}
+use Rattle.session_laws.specs.AgreementLaws.{NoDisagreementIsAgreement}
 use Rattle.lotos_top.specs.Flattening.{flat_printed}
 use Rattle.lotos_top.specs.HandedOn.{Beginning, Founded, IsFounded, asked_acceptance, Comes, goes_on, Has, Telling, ComesOfPart, Refused, Print}
 use Rattle.lotos_top.specs.HandedOn.{print, Finish, prints, serves, refusal_printed, Done}

@@ -12,15 +12,18 @@ use Rattle.tree_building.specs.Reading.{node_limit}
 use Rattle.behaviour_semantics.specs.Behaviour.{Process, Specification}
 use Rattle.type_definitions.specs.DeclaredTypes.{types_of}
 use Rattle.scope_parts.specs.Resolution.{resolved}
-use Rattle.flat_sentences.proofs.HandedOn.{IsShallow, shallow_joined, same_data_resolve_alike}
-use Rattle.flat_sentences.specs.DataLaws.{AreDataOfText, FlattenedDataAreOfText}
-use Rattle.flat_sentences.specs.FlatReadings.{IsSameReading, naming_of_flat}
-use Rattle.flat_sentences.specs.FlatTextReadings.{IsFlatTextReadBack, FlatTextsAreReadBack}
-use Rattle.flat_sentences.specs.WrittenSpecifications.{AreProcessesWritten}
-use Rattle.flat_sentences.specs.HandedOn.{flat_text, HasTextNames, Naming}
-use Rattle.flat_sentences.specs.DepthLaws.{nodes_of_definitions, FlatTextsAreNoDeeper}
-use Rattle.flat_sentences.specs.SameSpelling.{AreDataSpelledAlike}
-use Rattle.flat_sentences.specs.WrittenData.{AreItemsWritten, AreDataWritten}
+use Rattle.declaration_laws.proofs.SameResolutions.{same_data_resolve_alike}
+use Rattle.session_laws.proofs.DepthLemmas.{IsShallow, shallow_joined}
+use Rattle.session_laws.specs.DataLaws.{AreDataOfText, FlattenedDataAreOfText}
+use Rattle.session_laws.specs.FlatReadings.{IsSameReading, naming_of_flat}
+use Rattle.session_laws.specs.FlatTextReadings.{IsFlatTextReadBack, FlatTextsAreReadBack}
+use Rattle.session_laws.specs.WrittenSpecifications.{AreProcessesWritten}
+use Rattle.flat_text.specs.FlatText.{flat_text}
+use Rattle.printed_texts.specs.BehaviourText.{Naming}
+use Rattle.session_laws.specs.TextNames.{HasTextNames}
+use Rattle.session_laws.specs.DepthLaws.{nodes_of_definitions, FlatTextsAreNoDeeper}
+use Rattle.session_laws.specs.SameSpelling.{AreDataSpelledAlike}
+use Rattle.session_laws.specs.WrittenData.{AreItemsWritten, AreDataWritten}
 use Rattle.lotos_top.specs.HandedOn.{Founded, FoundedBy, Founds, GetsFile, ReadsSpecification, Gathered, Gathers, goes_on, Becomes, item}
 use Rattle.lotos_top.specs.HandedOn.{nothing_yet, all_gathered, nothing_waits, a_type}
 use Rattle.lotos_top.proofs.HandedOn.{data_are_well_formed}

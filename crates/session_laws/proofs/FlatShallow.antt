@@ -15,11 +15,14 @@ use Rattle.behaviour_semantics.specs.Behaviour.{Specification}
 use Rattle.behaviour_semantics.specs.WellFormed.{Every}
 use Rattle.behaviour_semantics.proofs.ListLemmas.{Every-append}
 use Rattle.type_definitions.specs.DeclaredTypes.{types_of}
-use Rattle.flat_sentences.specs.HandedOn.{IsWrittenAs, renamed_variables, term_depth}
-use Rattle.flat_sentences.specs.WrittenBehaviours.{Correspond}
-use Rattle.flat_sentences.specs.DepthLaws.{nodes_of_definitions}
-use Rattle.flat_sentences.specs.WrittenData.{IsGroupWritten, IsEquationWritten, IsBodyWritten, AreItemsWritten, AreDataWritten}
-use Rattle.flat_sentences.proofs.HandedOn.{IsShallow, shallow_joined, term_shallow, shallow_parts}
+use Rattle.flat_text.specs.EquationNames.{renamed_variables}
+use Rattle.session_laws.specs.WrittenAs.{IsWrittenAs}
+use Rattle.session_laws.specs.TermDepth.{term_depth}
+use Rattle.session_laws.specs.WrittenBehaviours.{Correspond}
+use Rattle.session_laws.specs.DepthLaws.{nodes_of_definitions}
+use Rattle.session_laws.specs.WrittenData.{IsGroupWritten, IsEquationWritten, IsBodyWritten, AreItemsWritten, AreDataWritten}
+use Rattle.session_laws.proofs.DepthLemmas.{IsShallow, shallow_joined, term_shallow}
+use Rattle.session_laws.proofs.TermReadDepths.{shallow_parts}
 use Rattle.lotos_top.specs.HandedOn.{Becomes, nothing_yet, item}
 use Rattle.session_laws.proofs.AcceptedNames.{gathered_there}
 use Rattle.session_laws.proofs.AcceptedParts.{StandsOn}

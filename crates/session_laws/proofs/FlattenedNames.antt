@@ -24,7 +24,7 @@ use Rattle.type_definitions.proofs.FaultLemmas.{none_first, not_past}
 use Rattle.behaviour_semantics.specs.WellFormed.{Every}
 use Rattle.behaviour_semantics.proofs.ListLemmas.{Every-append}
 use Rattle.behaviour_semantics.proofs.InstanceLemmas.{every_at}
-use Rattle.flat_sentences.specs.HandedOn.{IsWordSpelling, IsOperationSpelling, HasTextNames}
+use Rattle.session_laws.specs.TextNames.{IsWordSpelling, IsOperationSpelling, HasTextNames}
 use Rattle.session_laws.proofs.WrittenNames.{IsWord, IsOperatorDeclared, GivesWord, GivesOperator, ArePairsSpelled, AreSectionsSpelled, IsBodySpelled}
 use Rattle.session_laws.proofs.GatheredNames.{IsTypeSpelled}
 

@@ -12,7 +12,7 @@ use Rattle.scope_parts.specs.Definitions.{declared_gates}
 use Rattle.behaviour_semantics.specs.WellFormed.{Every}
 use Rattle.behaviour_semantics.proofs.EveryLemmas.{every_front, every_back}
 use Rattle.behaviour_semantics.proofs.ListLemmas.{Every-append}
-use Rattle.flat_sentences.specs.HandedOn.{IsWordSpelling}
+use Rattle.session_laws.specs.TextNames.{IsWordSpelling}
 use Rattle.session_laws.proofs.GatheredItems.{all_have}
 use Rattle.session_laws.proofs.TokenSpellings.{tokens_spelled}
 use Rattle.session_laws.proofs.WrittenNames.{IsBodySpelled, IsItemSpelled, items_spelled, specification_spelled}

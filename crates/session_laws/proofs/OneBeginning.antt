@@ -10,8 +10,9 @@ use Rattle.rewriting_theory.specs.Orientation.{NumberedRule, rules_of}
 use Rattle.rewriting_theory.proofs.OrientationLemmas.{orientation_well_formed}
 use Rattle.type_definitions.specs.DeclaredTypes.{types_of}
 use Rattle.behaviour_semantics.specs.Replacement.{with_values, binding_of}
-use Rattle.flat_sentences.specs.HandedOn.{SessionBasis, Progress, IsSituation}
-use Rattle.flat_sentences.proofs.HandedOn.{one_situation}
+use Rattle.session_histories.specs.Session.{SessionBasis, Progress}
+use Rattle.session_histories.specs.Lawful.{IsSituation}
+use Rattle.session_histories.proofs.StepLemmas.{one_situation}
 use Rattle.lotos_top.proofs.HandedOn.{over_once, statuses_once, data_within, greater_also, AreAlike, rules_once}
 use Rattle.lotos_top.specs.HandedOn.{Beginning, Acceptance, DataAreWellFormed, AreNormalForms}
 use Rattle.lotos_top.specs.Opening.{SessionBegins}

@@ -15,10 +15,17 @@ use Rattle.behaviour_semantics.proofs.ListLemmas.{Every-weaker, Every-among, Eve
 use Rattle.behaviour_semantics.proofs.EveryLemmas.{every_from}
 use Rattle.lotos_top.specs.HandedOn.{Beginning, Standing, IsReached, Acceptance}
 use Rattle.lotos_top.specs.Opening.{SessionBegins}
-use Rattle.flat_sentences.specs.HandedOn.{IsWordSpelling, IsOperationSpelling, LeadTo, Situation, derivations_of, SessionsFollowDerivations}
-use Rattle.flat_sentences.specs.HandedOn.{bound_names, names_in_bodies, names_at_hand, MovesKeepNames, StateTextsAreOfNames, AllPass}
-use Rattle.flat_sentences.specs.HandedOn.{is_printable, state_text}
-use Rattle.flat_sentences.proofs.HandedOn.{each_so, under_shorter}
+use Rattle.session_histories.specs.Lawful.{LeadTo}
+use Rattle.session_histories.specs.Session.{Situation, derivations_of}
+use Rattle.session_histories.specs.SessionLaws.{SessionsFollowDerivations}
+use Rattle.session_laws.specs.TextNames.{IsWordSpelling, IsOperationSpelling}
+use Rattle.session_histories.specs.BoundNames.{bound_names, names_in_bodies, names_at_hand, MovesKeepNames}
+use Rattle.session_histories.specs.StateTexts.{StateTextsAreOfNames}
+use Rattle.session_histories.specs.TextBytes.{AllPass}
+use Rattle.session_histories.specs.TextBytes.{is_printable}
+use Rattle.printed_texts.specs.BehaviourText.{state_text}
+use Rattle.session_histories.proofs.MovedNames.{each_so}
+use Rattle.session_laws.proofs.PlainNames.{under_shorter}
 use Rattle.session_laws.specs.AcceptedNames.{HasAcceptedNames, AcceptedNamesAreOfText}
 use Rattle.session_laws.specs.PrintedStates.{IsNamedProcess, HasNamedDefinitions, AcceptedDefinitionsAreNamed, IsPrintedLine, StatesPrintOnOneLine}
 use Rattle.session_laws.proofs.AcceptedParts.{StandsOn, accepted_on}

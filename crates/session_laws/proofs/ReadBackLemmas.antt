@@ -8,8 +8,9 @@ use Rattle.lotos_base.specs.WrittenTerm.{ListedOperation}
 use Rattle.syntax_trees.specs.WrittenDefinition.{WrittenSpecification}
 use Rattle.behaviour_semantics.specs.Behaviour.{Specification}
 use Rattle.behaviour_tree.specs.DefinitionView.{specification_of}
-use Rattle.flat_sentences.specs.HandedOn.{NoDisagreementIsAgreement, AreSameSpecifications}
-use Rattle.flat_sentences.specs.SameSpelling.{AreDataSpelledAlike}
+use Rattle.declaration_laws.specs.SameSpecification.{AreSameSpecifications}
+use Rattle.session_laws.specs.AgreementLaws.{NoDisagreementIsAgreement}
+use Rattle.session_laws.specs.SameSpelling.{AreDataSpelledAlike}
 use Rattle.session_laws.proofs.SameChecks.{pass_the_same_checks}
 use Rattle.session_laws.proofs.SameMenus.{do_the_same}
 use Rattle.session_laws.proofs.SpelledAlike.{same_data}

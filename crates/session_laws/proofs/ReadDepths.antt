@@ -8,8 +8,10 @@ use Rattle.syntax_trees.specs.Depth.{nodes_of_term, nodes_of_terms}
 use Rattle.sort_terms.specs.ReadingOutcome.{unknown_in, IsReading}
 use Rattle.behaviour_semantics.specs.WellFormed.{Every}
 use Rattle.sort_terms.proofs.OutcomeLemmas.{is_reading}
-use Rattle.flat_sentences.specs.HandedOn.{term_depth, AreRead}
-use Rattle.flat_sentences.proofs.HandedOn.{IsShallow, shallow_parts, term_within}
+use Rattle.session_histories.specs.Replay.{AreRead}
+use Rattle.session_laws.specs.TermDepth.{term_depth}
+use Rattle.session_laws.proofs.DepthLemmas.{IsShallow}
+use Rattle.session_laws.proofs.TermReadDepths.{shallow_parts, term_within}
 
 value_within : (signature : Signature) (limit sort : ℕ) (w : WrittenTerm) (t : Term)
     → AreRead signature (sort ∷ []) (w ∷ []) (t ∷ []) → IsShallow limit (nodes_of_term w) → term_depth t ≤ limit

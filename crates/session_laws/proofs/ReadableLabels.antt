@@ -3,9 +3,14 @@ use Rattle.std.proofs.Common.{sym, subst}
 use Rattle.lotos_base.specs.Equation.{Data, IsWellFormedData}
 use Rattle.type_definitions.specs.DeclaredTypes.{types_of}
 use Rattle.behaviour_semantics.specs.Behaviour.{Behaviour, Specification}
-use Rattle.flat_sentences.specs.HandedOn.{HasReadableNames, IsShownMenu, MenuIsReadBack, MenusAreReadBack, IsOneOf, UsesOnly}
-use Rattle.flat_sentences.specs.HandedOn.{MovesStayAtGates, HasDeclaredGates, TextsHaveDeclaredGates, LeadTo, Situation, derivations_of}
-use Rattle.flat_sentences.specs.HandedOn.{SessionsFollowDerivations}
+use Rattle.declaration_laws.specs.VisibleGates.{IsOneOf, UsesOnly}
+use Rattle.session_laws.specs.LabelLaws.{HasReadableNames}
+use Rattle.session_laws.specs.MenuReadings.{IsShownMenu, MenuIsReadBack, MenusAreReadBack}
+use Rattle.declaration_laws.specs.VisibleGates.{MovesStayAtGates}
+use Rattle.declaration_laws.specs.DeclaredGates.{HasDeclaredGates, TextsHaveDeclaredGates}
+use Rattle.session_histories.specs.Lawful.{LeadTo}
+use Rattle.session_histories.specs.Session.{Situation, derivations_of}
+use Rattle.session_histories.specs.SessionLaws.{SessionsFollowDerivations}
 use Rattle.lotos_top.specs.HandedOn.{Beginning, Standing, IsReached, Acceptance, DataAreWellFormed}
 use Rattle.lotos_top.specs.Opening.{SessionBegins}
 use Rattle.session_laws.specs.AcceptedNames.{HasAcceptedNames, AcceptedNamesAreOfText}

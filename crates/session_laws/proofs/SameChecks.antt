@@ -1,8 +1,8 @@
 -- Same specifications over same data pass the same checks.
 use Rattle.behaviour_tree.specs.DefinitionView.{specification_of}
 use Rattle.certificate_theory.proofs.InterchangeableData.{signatures_agree, data_turned}
-use Rattle.flat_sentences.proofs.HandedOn.{reading_too}
-use Rattle.flat_sentences.specs.HandedOn.{NoDisagreementIsAgreement}
+use Rattle.declaration_laws.proofs.SameReadings.{reading_too}
+use Rattle.session_laws.specs.AgreementLaws.{NoDisagreementIsAgreement}
 use Rattle.session_laws.specs.SameChecksLaws.{SameSpecificationsPassTheSameChecks}
 use Rattle.session_laws.proofs.SameFunctionalities.{agree_over, disagreements_over}
 use Rattle.session_laws.proofs.SameMenus.{turned}

@@ -18,7 +18,7 @@ use Rattle.behaviour_semantics.proofs.OptionLemmas.{some_value}
 use Rattle.certificate_theory.specs.SameData.{AreSameData}
 use Rattle.certificate_theory.proofs.SameSignatures.{are_values}
 use Rattle.certificate_theory.proofs.InterchangeableData.{signatures_agree, data_turned, equal_over}
-use Rattle.flat_sentences.specs.HandedOn.{AreOneProcess, AreSameProcesses, AreSameSpecifications}
+use Rattle.declaration_laws.specs.SameSpecification.{AreOneProcess, AreSameProcesses, AreSameSpecifications}
 use Rattle.session_laws.specs.SameSpecificationLaws.{SameSpecificationsDoTheSame}
 use Rattle.session_laws.proofs.SameMoves.{moves_alike}
 

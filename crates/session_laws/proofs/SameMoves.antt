@@ -13,7 +13,7 @@ use Rattle.behaviour_semantics.specs.Move.{Setting, Move, opened, together, enab
 use Rattle.certificate_theory.specs.SameData.{AreSameData}
 use Rattle.certificate_theory.proofs.SameSignatures.{AgreeSignatures, sorts_asked, same_sorts_asked}
 use Rattle.certificate_theory.proofs.InterchangeableData.{signatures_agree}
-use Rattle.flat_sentences.specs.HandedOn.{AreOneProcess, AreSameProcesses}
+use Rattle.declaration_laws.specs.SameSpecification.{AreOneProcess, AreSameProcesses}
 use Rattle.session_laws.proofs.SamePlaces.{Both, processes_found}
 
 -- two functions that have the same values are the same

@@ -16,7 +16,7 @@ use Rattle.lotos_top.specs.HandedOn.{IsOpenedBy}
 use Rattle.certificate_theory.specs.SameData.{AreOneEquation, AreSameEquations, AreOneOperation, AreSameData}
 use Rattle.certificate_theory.proofs.SameSignatures.{AgreeSignatures, agree_turned}
 use Rattle.certificate_theory.proofs.InterchangeableData.{signatures_agree}
-use Rattle.flat_sentences.proofs.HandedOn.{sort_there, operation_there}
+use Rattle.declaration_laws.proofs.HandedOn.{sort_there, operation_there}
 use Rattle.session_laws.proofs.SamePlaces.{as_many_operations}
 
 -- ---- Which operations an item lists

@@ -5,7 +5,7 @@ use Rattle.lotos_base.specs.Signature.{Operation}
 use Rattle.behaviour_semantics.specs.Behaviour.{Process}
 use Rattle.behaviour_semantics.proofs.OptionLemmas.{some_value}
 use Rattle.certificate_theory.specs.SameData.{AreSameOperations}
-use Rattle.flat_sentences.specs.HandedOn.{AreOneProcess, AreSameProcesses}
+use Rattle.declaration_laws.specs.SameSpecification.{AreOneProcess, AreSameProcesses}
 
 -- both are there and are related, or neither is there
 abbrev pub Both : {X : Type 0} → (X → X → Type 0) → Option X → Option X → Type 0

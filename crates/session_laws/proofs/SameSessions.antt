@@ -7,8 +7,11 @@ use Rattle.behaviour_semantics.specs.Label.{Label}
 use Rattle.behaviour_semantics.specs.Menu.{Exact}
 use Rattle.behaviour_semantics.specs.WellFormed.{AreOver}
 use Rattle.certificate_theory.proofs.InterchangeableData.{data_turned}
-use Rattle.flat_sentences.specs.HandedOn.{SessionBasis, Item, Situation, PastStep, Progress, first_situation, IsSituation, IsLawfulItem}
-use Rattle.flat_sentences.specs.HandedOn.{LeadTo, IsLawful, HasStepped, IsStateOver, canonical_derivation}
+use Rattle.session_histories.specs.Session.{SessionBasis, Item, Situation, PastStep, Progress, first_situation}
+use Rattle.session_histories.specs.Lawful.{IsSituation, IsLawfulItem}
+use Rattle.session_histories.specs.Lawful.{LeadTo, IsLawful, HasStepped}
+use Rattle.session_histories.specs.SessionLaws.{IsStateOver}
+use Rattle.printed_texts.specs.HandedOn.{canonical_derivation}
 use Rattle.session_laws.specs.SameBases.{AreSameBases}
 use Rattle.session_laws.specs.SameSessionsLaws.{SessionsOverTheSameAgree}
 use Rattle.session_laws.proofs.SameMenus.{turned, meets_over, move_over, menu_over}

@@ -9,7 +9,7 @@ use Rattle.lotos_top.specs.HandedOn.{misfitting}
 use Rattle.certificate_theory.specs.SameData.{AreSameData}
 use Rattle.certificate_theory.proofs.SameSignatures.{AgreeSignatures}
 use Rattle.certificate_theory.proofs.InterchangeableData.{signatures_agree}
-use Rattle.flat_sentences.proofs.HandedOn.{reading_too}
+use Rattle.declaration_laws.proofs.SameReadings.{reading_too}
 use Rattle.session_laws.specs.SameChecksLaws.{start_over}
 
 values_over : (signature other : Signature) → AgreeSignatures signature other → (sorts : List ℕ) (terms : List WordTerm)

@@ -8,7 +8,7 @@ use Rattle.behaviour_semantics.specs.Behaviour.{Behaviour, stop, exit_with, acti
 use Rattle.behaviour_semantics.specs.WellFormed.{Every, AreTermsIn, IsCall, IsBehaviour, IsDefinition, IsSpecification, AreOver}
 use Rattle.certificate_theory.specs.SameData.{AreSameData}
 use Rattle.certificate_theory.proofs.InterchangeableData.{interchangeable}
-use Rattle.flat_sentences.specs.HandedOn.{AreOneProcess, AreSameProcesses, AreSameSpecifications}
+use Rattle.declaration_laws.specs.SameSpecification.{AreOneProcess, AreSameProcesses, AreSameSpecifications}
 use Rattle.session_laws.proofs.SamePlaces.{like, processes_found}
 
 module _ (signature : Signature) (names : ℕ) (processes others : List Process) (alike : AreSameProcesses processes others) where

@@ -8,13 +8,18 @@ use Rattle.behaviour_semantics.specs.Behaviour.{Behaviour, stop, exit_with, acti
 use Rattle.behaviour_semantics.specs.Label.{Label, inner_event, gate_event, exit_event}
 use Rattle.behaviour_semantics.specs.Solving.{Entry}
 use Rattle.certificate_theory.specs.SameData.{AreSameEquations}
-use Rattle.flat_sentences.specs.HandedOn.{AreSameSpecifications, round, square, commas, Naming, process_names, gate_text, gates_text}
-use Rattle.flat_sentences.specs.HandedOn.{called_text, declared_text, test_text, predicate_text, offer_text, offers_text, exit_value_text}
-use Rattle.flat_sentences.specs.HandedOn.{round_list, square_list, sign_text, enable_sign, binding_text, pair_text, unit_text}
-use Rattle.flat_sentences.specs.HandedOn.{between_blanks, behaviour_text, state_text, entry_term_text, name_text, values_text}
-use Rattle.flat_sentences.specs.HandedOn.{exit_values_text, label_text, sorted_texts, for_text, condition_text, if_text, entry_text}
-use Rattle.flat_sentences.specs.HandedOn.{lines_text, menu_text, head_text, sort_text, numbered_text, term_text}
-use Rattle.flat_sentences.specs.SameSpelling.{AreSortsSpelledAlike, AreSignaturesSpelledAlike, AreDataSpelledAlike}
+use Rattle.declaration_laws.specs.SameSpecification.{AreSameSpecifications}
+use Rattle.printed_texts.specs.Brackets.{round, square, commas}
+use Rattle.printed_texts.specs.BehaviourText.{Naming, process_names, gate_text, gates_text}
+use Rattle.printed_texts.specs.BehaviourText.{called_text, declared_text, test_text, predicate_text, offer_text, offers_text, exit_value_text}
+use Rattle.printed_texts.specs.BehaviourText.{round_list, square_list, sign_text, enable_sign, binding_text, pair_text, unit_text}
+use Rattle.printed_texts.specs.BehaviourText.{between_blanks, behaviour_text, state_text}
+use Rattle.printed_texts.specs.MenuText.{entry_term_text, name_text, values_text}
+use Rattle.printed_texts.specs.MenuText.{exit_values_text, label_text, sorted_texts, for_text, condition_text, if_text, entry_text}
+use Rattle.printed_texts.specs.MenuText.{lines_text, menu_text}
+use Rattle.printed_texts.specs.ReportLines.{head_text}
+use Rattle.printed_texts.specs.TermText.{sort_text, numbered_text, term_text}
+use Rattle.session_laws.specs.SameSpelling.{AreSortsSpelledAlike, AreSignaturesSpelledAlike, AreDataSpelledAlike}
 use Rattle.session_laws.specs.SameTextsLaws.{naming_with, TextsAgreeButForProcesses}
 use Rattle.session_laws.proofs.SameMoves.{pointwise}
 use Rattle.session_laws.proofs.SamePlaces.{as_many_operations}

@@ -16,7 +16,7 @@ use Rattle.lotos_rows.specs.Starts.{IsWrittenSpecification, a_specification}
 use Rattle.behaviour_semantics.specs.WellFormed.{Every}
 use Rattle.behaviour_semantics.proofs.EveryLemmas.{every_front, every_back}
 use Rattle.behaviour_semantics.proofs.ListLemmas.{Every-append}
-use Rattle.flat_sentences.specs.HandedOn.{IsWordSpelling}
+use Rattle.session_laws.specs.TextNames.{IsWordSpelling}
 use Rattle.session_laws.proofs.TokenSpellings.{IsSpelledIn}
 use Rattle.session_laws.proofs.WrittenNames.{flat_every, IsWord, AreSpelled, Gives, front, back, optional_gives, many_gives, separated_gives, between_gives, token_word, names_words}
 

@@ -13,10 +13,14 @@ use Rattle.behaviour_semantics.specs.Solving.{Entry}
 use Rattle.behaviour_semantics.specs.Transition.{Transition}
 use Rattle.behaviour_semantics.specs.TransitionLaws.{TransitionsAreDerived}
 use Rattle.behaviour_semantics.specs.WellFormed.{IsSpecification}
-use Rattle.flat_sentences.specs.HandedOn.{IsOneOf, IsAt, UsesOnly, MovesStayAtGates, HasDistinctGates, HasDeclaredGates}
-use Rattle.flat_sentences.specs.HandedOn.{TextsHaveDeclaredGates, EntriesStayAtGates, LeadTo, Situation, derivations_of}
-use Rattle.flat_sentences.specs.HandedOn.{SessionsFollowDerivations, IsStateOver}
-use Rattle.flat_sentences.proofs.HandedOn.{put_in}
+use Rattle.declaration_laws.specs.VisibleGates.{IsOneOf, IsAt, UsesOnly, MovesStayAtGates}
+use Rattle.declaration_laws.specs.DeclaredGates.{HasDistinctGates, HasDeclaredGates}
+use Rattle.declaration_laws.specs.DeclaredGates.{TextsHaveDeclaredGates}
+use Rattle.declaration_laws.specs.EntryGates.{EntriesStayAtGates}
+use Rattle.session_histories.specs.Lawful.{LeadTo}
+use Rattle.session_histories.specs.Session.{Situation, derivations_of}
+use Rattle.session_histories.specs.SessionLaws.{SessionsFollowDerivations, IsStateOver}
+use Rattle.declaration_laws.proofs.GateLemmas.{put_in}
 use Rattle.lotos_top.specs.HandedOn.{Beginning, Standing, IsReached, Asked, Acceptance, IsAccepted, goes_on, GotFile}
 use Rattle.lotos_top.specs.Opening.{SessionBegins}
 use Rattle.session_laws.specs.VisibleEvents.{SessionsShowDeclaredGates}

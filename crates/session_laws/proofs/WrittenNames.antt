@@ -22,7 +22,7 @@ use Rattle.scope_parts.specs.Definitions.{declared_gates}
 use Rattle.behaviour_semantics.specs.WellFormed.{Every}
 use Rattle.behaviour_semantics.proofs.EveryLemmas.{every_front, every_back}
 use Rattle.behaviour_semantics.proofs.ListLemmas.{Every-append}
-use Rattle.flat_sentences.specs.HandedOn.{IsWordSpelling, IsOperationSpelling}
+use Rattle.session_laws.specs.TextNames.{IsWordSpelling, IsOperationSpelling}
 use Rattle.session_laws.proofs.TokenSpellings.{IsSpelledIn}
 
 -- ---- Lists

@@ -1,7 +1,7 @@
 -- The names of an accepted specification have the form of names: each is one whole token, and infix operations have two arguments.
 use Rattle.std.specs.Prelude.{List}
 use Rattle.behaviour_semantics.specs.WellFormed.{Every}
-use Rattle.flat_sentences.specs.HandedOn.{IsWordSpelling, HasTextNames}
+use Rattle.session_laws.specs.TextNames.{IsWordSpelling, HasTextNames}
 use Rattle.lotos_top.specs.HandedOn.{Asked, Acceptance, IsAccepted, goes_on, GotFile}
 
 -- those of its sorts and operations, and those of its gates

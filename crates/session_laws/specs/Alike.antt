@@ -4,8 +4,11 @@ use Rattle.behaviour_semantics.specs.Label.{Label}
 use Rattle.lotos_top.specs.HandedOn.{Beginning, Progress, shown_menu, Founded, Acceptance}
 use Rattle.lotos_top.specs.Opening.{opening_text}
 use Rattle.session_laws.specs.SameBases.{AreSameBases}
-use Rattle.flat_sentences.specs.HandedOn.{AreSameSpecifications, IsLawful, shown_label, shown_state, behaviour_text}
-use Rattle.flat_sentences.specs.SameSpelling.{AreDataSpelledAlike}
+use Rattle.declaration_laws.specs.SameSpecification.{AreSameSpecifications}
+use Rattle.session_histories.specs.Lawful.{IsLawful}
+use Rattle.session_histories.specs.Replay.{shown_label, shown_state}
+use Rattle.printed_texts.specs.BehaviourText.{behaviour_text}
+use Rattle.session_laws.specs.SameSpelling.{AreDataSpelledAlike}
 use Rattle.session_laws.specs.SameTextsLaws.{naming_with}
 
 -- up to the book of their data

@@ -4,7 +4,8 @@ use Rattle.lotos_base.specs.Term.{Term}
 use Rattle.behaviour_semantics.specs.Behaviour.{Behaviour}
 use Rattle.behaviour_semantics.specs.Label.{exit_event}
 use Rattle.behaviour_semantics.specs.Transition.{Transition}
-use Rattle.flat_sentences.specs.HandedOn.{EndsWithin, EndsWith}
+use Rattle.session_laws.specs.HasFunctionality.{EndsWithin}
+use Rattle.session_laws.specs.ExitLaws.{EndsWith}
 use Rattle.lotos_top.specs.HandedOn.{Beginning, Standing, IsReached, Asked, Acceptance, IsAccepted, goes_on, GotFile}
 use Rattle.lotos_top.specs.Opening.{SessionBegins}
 

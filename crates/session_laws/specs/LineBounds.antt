@@ -1,7 +1,8 @@
 -- The numbers of entries and the values that a session got by its lines are such as a line of a trace can hold.
 use Rattle.std.specs.Prelude.{◌≡◌, ℕ, Bool, List, []}
 use Rattle.behaviour_semantics.specs.WellFormed.{Every}
-use Rattle.flat_sentences.specs.HandedOn.{IsWithinLine, Progress, items_of}
+use Rattle.session_histories.specs.Session.{Progress, items_of}
+use Rattle.session_laws.specs.TraceReadings.{IsWithinLine}
 use Rattle.line_server.specs.Answered as served
 use Rattle.lotos_top.specs.HandedOn.{Standing, Befallen, LineComesTo, SessionPoint, history_machine}
 

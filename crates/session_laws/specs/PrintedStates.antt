@@ -2,7 +2,10 @@
 use Rattle.std.specs.Prelude.{ℕ, List}
 use Rattle.behaviour_semantics.specs.Behaviour.{Process}
 use Rattle.behaviour_semantics.specs.WellFormed.{Every}
-use Rattle.flat_sentences.specs.HandedOn.{IsWordSpelling, bound_names, AllPass, is_printable, IsOnOneLine, state_text}
+use Rattle.session_histories.specs.BoundNames.{bound_names}
+use Rattle.session_histories.specs.TextBytes.{AllPass, is_printable, IsOnOneLine}
+use Rattle.printed_texts.specs.BehaviourText.{state_text}
+use Rattle.session_laws.specs.TextNames.{IsWordSpelling}
 use Rattle.lotos_top.specs.HandedOn.{Beginning, Standing, IsReached, Asked, Acceptance, IsAccepted, goes_on, GotFile}
 use Rattle.lotos_top.specs.Opening.{SessionBegins}
 

@@ -5,8 +5,8 @@ use Rattle.lotos_base.specs.Outside.{Texts}
 use Rattle.syntax_trees.specs.WrittenDefinition.{WrittenSpecification}
 use Rattle.behaviour_semantics.specs.Behaviour.{Specification}
 use Rattle.type_definitions.specs.DeclaredTypes.{types_of}
-use Rattle.flat_sentences.specs.HandedOn.{AreSameSpecifications}
-use Rattle.flat_sentences.specs.SameSpelling.{AreDataSpelledAlike}
+use Rattle.declaration_laws.specs.SameSpecification.{AreSameSpecifications}
+use Rattle.session_laws.specs.SameSpelling.{AreDataSpelledAlike}
 use Rattle.lotos_top.specs.HandedOn.{Founded, got_from, Gathered, goes_on, StandsFor, ReadsSpecification, Gathers, HaveData}
 
 -- The text is read without any other file, its types have these data, and over these it stands for this specification.

@@ -1,6 +1,6 @@
 -- What a session shows as labels is read back from what is printed.
 use Rattle.std.specs.Prelude.{List}
-use Rattle.flat_sentences.specs.HandedOn.{MenuIsReadBack}
+use Rattle.session_laws.specs.MenuReadings.{MenuIsReadBack}
 use Rattle.lotos_top.specs.HandedOn.{Beginning, Standing, IsReached, Asked, Acceptance, IsAccepted, goes_on, GotFile}
 use Rattle.lotos_top.specs.Opening.{SessionBegins}
 

@@ -10,7 +10,9 @@ use Rattle.behaviour_tree.specs.DefinitionView.{specification_of}
 use Rattle.behaviour_tree.specs.Over.{IsSpecOver}
 use Rattle.behaviour_tree.specs.declared.definitions.Spec.{Spec}
 use Rattle.certificate_theory.specs.SameData.{AreSameData}
-use Rattle.flat_sentences.specs.HandedOn.{AllAgree, AreSameSpecifications, all_disagreements}
+use Rattle.declaration_laws.specs.SameSpecification.{AreSameSpecifications}
+use Rattle.process_checks.specs.Functionality.{all_disagreements}
+use Rattle.session_laws.specs.HasFunctionality.{AllAgree}
 use Rattle.rewriting_theory.specs.Precedence.{Precedence}
 use Rattle.rewriting_theory.specs.Orientation.{NumberedRule}
 use Rattle.path_order.specs.OrderedBy.{IsPrecedenceBy}

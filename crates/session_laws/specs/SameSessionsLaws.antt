@@ -4,8 +4,10 @@ use Rattle.std.specs.Prelude.{ℕ, List}
 use Rattle.lotos_base.specs.Term.{Term}
 use Rattle.behaviour_semantics.specs.Behaviour.{Behaviour}
 use Rattle.behaviour_semantics.specs.Label.{Label}
-use Rattle.flat_sentences.specs.HandedOn.{SessionBasis, Item, Situation, PastStep, Progress, IsSituation, IsLawfulItem, LeadTo, IsLawful}
-use Rattle.flat_sentences.specs.HandedOn.{HasStepped, IsStateOver}
+use Rattle.session_histories.specs.Session.{SessionBasis, Item, Situation, PastStep, Progress}
+use Rattle.session_histories.specs.Lawful.{IsSituation, IsLawfulItem, LeadTo, IsLawful}
+use Rattle.session_histories.specs.Lawful.{HasStepped}
+use Rattle.session_histories.specs.SessionLaws.{IsStateOver}
 use Rattle.session_laws.specs.SameBases.{AreSameBases}
 
 pub record SessionsOverTheSameAgree : Type 0 where

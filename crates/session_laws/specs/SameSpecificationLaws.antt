@@ -11,7 +11,7 @@ use Rattle.behaviour_semantics.specs.Solving.{Entry}
 use Rattle.behaviour_semantics.specs.Menu.{Exact}
 use Rattle.behaviour_semantics.specs.Guardedness.{IsGuarded}
 use Rattle.certificate_theory.specs.SameData.{AreSameData}
-use Rattle.flat_sentences.specs.HandedOn.{AreSameProcesses, AreSameSpecifications}
+use Rattle.declaration_laws.specs.SameSpecification.{AreSameProcesses, AreSameSpecifications}
 
 pub record SameSpecificationsDoTheSame : Type 0 where
   -- same specifications are the same the other way round too

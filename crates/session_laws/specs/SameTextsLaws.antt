@@ -6,9 +6,12 @@ use Rattle.behaviour_semantics.specs.Behaviour.{Behaviour, Specification}
 use Rattle.behaviour_semantics.specs.Label.{Label}
 use Rattle.behaviour_semantics.specs.Solving.{Entry}
 use Rattle.certificate_theory.specs.SameData.{AreSameData}
-use Rattle.flat_sentences.specs.HandedOn.{AreSameSpecifications, Naming, process_names, behaviour_text, state_text, label_text, menu_text}
-use Rattle.flat_sentences.specs.HandedOn.{head_text, term_text}
-use Rattle.flat_sentences.specs.SameSpelling.{AreDataSpelledAlike}
+use Rattle.declaration_laws.specs.SameSpecification.{AreSameSpecifications}
+use Rattle.printed_texts.specs.BehaviourText.{Naming, process_names, behaviour_text, state_text}
+use Rattle.printed_texts.specs.MenuText.{label_text, menu_text}
+use Rattle.printed_texts.specs.ReportLines.{head_text}
+use Rattle.printed_texts.specs.TermText.{term_text}
+use Rattle.session_laws.specs.SameSpelling.{AreDataSpelledAlike}
 
 -- The names in the one specification, but with the processes under the names that they have in the other one.
 abbrev pub naming_with : Data → (one other : Specification) → Naming

@@ -5,7 +5,7 @@ use Rattle.lotos_base.specs.Outside.{Texts}
 use Rattle.line_server.specs.Answered as served
 use Rattle.line_server.specs.Machine.{Reply}
 use Rattle.line_server.specs.Request.{save, replay, request_of}
-use Rattle.flat_sentences.specs.HandedOn.{Progress}
+use Rattle.session_histories.specs.Session.{Progress}
 use Rattle.lotos_top.specs.HandedOn.{SessionPoint, point, LineIs, history_machine, saved_text, replayed_text, Beginning, standing_at, Asked}
 use Rattle.lotos_top.specs.HandedOn.{Acceptance, IsAccepted, goes_on, GotFile}
 use Rattle.lotos_top.specs.Opening.{SessionBegins}

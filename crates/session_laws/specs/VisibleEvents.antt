@@ -5,7 +5,8 @@ use Rattle.behaviour_semantics.specs.Label.{Label}
 use Rattle.behaviour_semantics.specs.Transition.{Transition}
 use Rattle.behaviour_semantics.specs.Solving.{Entry}
 use Rattle.behaviour_semantics.specs.Menu.{IsEntry}
-use Rattle.flat_sentences.specs.HandedOn.{IsOneOf, IsAt, HasDistinctGates}
+use Rattle.declaration_laws.specs.VisibleGates.{IsOneOf, IsAt}
+use Rattle.declaration_laws.specs.DeclaredGates.{HasDistinctGates}
 use Rattle.lotos_top.specs.HandedOn.{Beginning, Standing, IsReached, Asked, Acceptance, IsAccepted, goes_on, GotFile}
 use Rattle.lotos_top.specs.Opening.{SessionBegins}
 

@@ -2,11 +2,10 @@
 
 ghost use Rattle.session_laws.specs.EndingSessions.{SessionsEndAsDeclared};
 
+use crate::functionalities::{exits_have_their_sorts, no_disagreement_is_agreement};
 use behaviour_semantics::transition::transitions_are_derived;
-use flat_sentences::{
-    exits_have_their_sorts, no_disagreement_is_agreement, sessions_follow_derivations,
-};
 use lotos_top::start_values_are_ground;
+use session_histories::laws::sessions_follow_derivations;
 
 /// In every state that a session of an accepted specification reaches, each termination has values
 /// of the sorts that the specification declares behind `exit`, and where it declares `noexit` there

@@ -7,10 +7,10 @@ ghost use Rattle.session_laws.specs.AlikeLaws.{
 };
 ghost use Rattle.session_laws.specs.FlatRuns.{FlatTextsRunAlike, FlattenedTextsStandForTheSame};
 
+use crate::data_laws::flattened_data_are_of_text;
+use crate::functionalities::no_disagreement_is_agreement;
 use crate::laws::sessions_begin_once;
-use flat_sentences::data_laws::flattened_data_are_of_text;
-use flat_sentences::no_disagreement_is_agreement;
-use flat_sentences::texts::flat_texts_are_read_back;
+use crate::texts::flat_texts_are_read_back;
 
 /// The flat text of an accepted specification, if it has no more bytes than texts may have, is read
 /// as a specification whose types have the same data, spelled alike, and which stands for the same

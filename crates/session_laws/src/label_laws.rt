@@ -3,12 +3,11 @@
 
 ghost use Rattle.session_laws.specs.ReadableLabels.{SessionsShowReadableLabels};
 
+use crate::labels::menus_are_read_back;
 use crate::laws::accepted_names_are_of_text;
-use flat_sentences::{
-    menus_are_read_back, moves_stay_at_gates, sessions_follow_derivations,
-    texts_have_declared_gates,
-};
+use declaration_laws::gates::{moves_stay_at_gates, texts_have_declared_gates};
 use lotos_top::data_are_well_formed;
+use session_histories::laws::sessions_follow_derivations;
 
 /// In every state that a session of an accepted specification reaches, what the menu shows as a
 /// label without variables is read as this label, so that two different ones never print alike.

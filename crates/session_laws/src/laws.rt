@@ -9,12 +9,14 @@ ghost use Rattle.session_laws.specs.SavedTraces.{SavedTracesAreReplayed};
 ghost use Rattle.session_laws.specs.VisibleEvents.{SessionsShowDeclaredGates};
 
 use crate::state_laws::accepted_definitions_are_named;
+use crate::trace_laws::traces_are_replayed;
 use behaviour_semantics::transition::transitions_are_derived;
-use flat_sentences::{
-    entries_stay_at_gates, moves_keep_names, moves_stay_at_gates, sessions_follow_derivations,
-    texts_have_declared_gates, traces_are_replayed,
+use declaration_laws::gates::{
+    entries_stay_at_gates, moves_stay_at_gates, texts_have_declared_gates,
 };
 use lotos_top::{data_are_well_formed, lines_lead_on};
+use session_histories::laws::sessions_follow_derivations;
+use session_histories::state_laws::moves_keep_names;
 
 /// Numbers of entries and values that the lines of a session give keep within what a line of a
 /// trace can hold: at most ten digits, and terms nested at most 500 deep.

@@ -5,7 +5,7 @@ ghost use Rattle.session_laws.specs.SameSessionsLaws.{SessionsOverTheSameAgree};
 ghost use Rattle.session_laws.specs.SameSpecificationLaws.{SameSpecificationsDoTheSame};
 ghost use Rattle.session_laws.specs.SameTextsLaws.{TextsAgreeButForProcesses};
 
-use flat_sentences::no_disagreement_is_agreement;
+use crate::functionalities::no_disagreement_is_agreement;
 
 /// Over data that are the same up to places, origins, spellings and names of variables, the
 /// behaviours of specifications that are the same up to names of processes have the same moves,

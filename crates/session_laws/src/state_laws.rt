@@ -7,7 +7,8 @@ ghost use Rattle.session_laws.specs.PrintedStates.{
 };
 
 use crate::laws::accepted_names_are_of_text;
-use flat_sentences::{moves_keep_names, sessions_follow_derivations, state_texts_are_of_names};
+use session_histories::laws::sessions_follow_derivations;
+use session_histories::state_laws::{moves_keep_names, state_texts_are_of_names};
 
 /// The names of an accepted specification, of its processes and of the variables that these bind
 /// have the form of names: each is one whole token.

@@ -1,4 +1,4 @@
-use Rattle.flat_sentences.proofs.FlatDepths.{flat_texts_are_no_deeper}
+use Rattle.session_laws.proofs.FlatDepths.{flat_texts_are_no_deeper}
 use Rattle.session_laws.proofs.FlatReadBack.{flattened_texts_stand_for_the_same}
 use Rattle.session_laws.proofs.flat_laws.flattened_texts_stand_for_the_same.Goals as goal
 

@@ -1,5 +1,0 @@
-use Rattle.flat_sentences.proofs.BehavioursMeant.{behaviours_mean_themselves}
-use Rattle.flat_sentences.proofs.behaviour_meanings.resolved_behaviours_mean_themselves.Goals as goal
-
-pub returns : goal.returns
-returns c = behaviours_mean_themselves

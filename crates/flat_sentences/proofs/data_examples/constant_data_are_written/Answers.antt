@@ -1,5 +1,0 @@
-use Rattle.flat_sentences.proofs.ExampleLemmas.{constant_data_are_written}
-use Rattle.flat_sentences.proofs.data_examples.constant_data_are_written.Goals as goal
-
-pub returns : goal.returns
-returns c = constant_data_are_written

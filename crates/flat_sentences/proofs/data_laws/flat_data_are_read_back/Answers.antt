@@ -1,5 +1,0 @@
-use Rattle.flat_sentences.proofs.ReadBack.{flat_data_are_read_back}
-use Rattle.flat_sentences.proofs.data_laws.flat_data_are_read_back.Goals as goal
-
-pub returns : goal.returns
-returns c = flat_data_are_read_back

@@ -1,5 +1,0 @@
-use Rattle.flat_sentences.proofs.Numbered.{flattened_equations_are_numbered}
-use Rattle.flat_sentences.proofs.data_laws.flattened_equations_are_numbered.Goals as goal
-
-pub returns : goal.returns
-returns c = flattened_equations_are_numbered c.equations_number_by_appearance.ensures

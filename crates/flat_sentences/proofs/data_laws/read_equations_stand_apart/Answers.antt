@@ -1,5 +1,0 @@
-use Rattle.flat_sentences.proofs.EquationPlaces.{read_equations_stand_apart}
-use Rattle.flat_sentences.proofs.data_laws.read_equations_stand_apart.Goals as goal
-
-pub returns : goal.returns
-returns c = read_equations_stand_apart

@@ -1,5 +1,0 @@
-use Rattle.flat_sentences.proofs.BehaviourTexts.{behaviour_texts_are_words}
-use Rattle.flat_sentences.proofs.pieces.behaviour_texts_are_words.Goals as goal
-
-pub returns : goal.returns
-returns c = behaviour_texts_are_words

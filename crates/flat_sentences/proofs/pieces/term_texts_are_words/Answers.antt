@@ -1,5 +1,0 @@
-use Rattle.flat_sentences.proofs.TermTexts.{term_texts_are_words}
-use Rattle.flat_sentences.proofs.pieces.term_texts_are_words.Goals as goal
-
-pub returns : goal.returns
-returns c = term_texts_are_words

@@ -1,5 +1,0 @@
-use Rattle.flat_sentences.proofs.FlatReadings.{flat_texts_are_read_as_the_same}
-use Rattle.flat_sentences.proofs.readings.flat_texts_are_read_as_the_same.Goals as goal
-
-pub returns : goal.returns
-returns c = flat_texts_are_read_as_the_same

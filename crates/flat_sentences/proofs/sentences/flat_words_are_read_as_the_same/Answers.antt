@@ -1,5 +1,0 @@
-use Rattle.flat_sentences.proofs.SpecificationSentences.{flat_words_are_read_as_the_same}
-use Rattle.flat_sentences.proofs.sentences.flat_words_are_read_as_the_same.Goals as goal
-
-pub returns : goal.returns
-returns c = flat_words_are_read_as_the_same

@@ -1,5 +1,0 @@
-use Rattle.flat_sentences.proofs.TermSentences.{term_words_are_sentences}
-use Rattle.flat_sentences.proofs.sentences.term_words_are_sentences.Goals as goal
-
-pub returns : goal.returns
-returns c = term_words_are_sentences

@@ -1,5 +1,0 @@
-use Rattle.flat_sentences.proofs.FlatResolved.{flat_texts_stand_for_the_same}
-use Rattle.flat_sentences.proofs.specification_meanings.flat_texts_stand_for_the_same.Goals as goal
-
-pub returns : goal.returns
-returns c = flat_texts_stand_for_the_same

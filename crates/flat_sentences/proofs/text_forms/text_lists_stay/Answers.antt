@@ -1,5 +1,0 @@
-use Rattle.flat_sentences.proofs.TakenLemmas.{text_lists_stay}
-use Rattle.flat_sentences.proofs.text_forms.text_lists_stay.Goals as goal
-
-pub returns : goal.returns
-returns c = text_lists_stay

@@ -1,5 +1,0 @@
-use Rattle.specification_laws.proofs.Ending.{one_functionality}
-use Rattle.specification_laws.proofs.functionalities.behaviours_have_one_functionality.Goals as goal
-
-pub returns : goal.returns
-returns c = one_functionality

@@ -1,5 +1,0 @@
-use Rattle.specification_laws.proofs.SampleLemmas.{samples_read_back}
-use Rattle.specification_laws.proofs.term_text_laws.sample_texts_are_read_back.Goals as goal
-
-pub returns : goal.returns
-returns c = samples_read_back

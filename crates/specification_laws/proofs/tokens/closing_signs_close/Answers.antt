@@ -1,5 +1,0 @@
-use Rattle.specification_laws.proofs.CuttingLaws.{closing_signs_close}
-use Rattle.specification_laws.proofs.tokens.closing_signs_close.Goals as goal
-
-pub returns : goal.returns
-returns c = closing_signs_close

@@ -1,5 +1,0 @@
-use Rattle.specification_laws.proofs.LongestLemmas.{tokens_are_longest}
-use Rattle.specification_laws.proofs.tokens.tokens_are_longest.Goals as goal
-
-pub returns : goal.returns
-returns c = tokens_are_longest

@@ -1,5 +1,0 @@
-use Rattle.specification_laws.proofs.TermMeanings.{term_means}
-use Rattle.specification_laws.proofs.written_laws.read_terms_mean_themselves.Goals as goal
-
-pub returns : goal.returns
-returns c = term_means
