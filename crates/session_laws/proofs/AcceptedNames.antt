@@ -6,8 +6,7 @@ use Rattle.syntax_trees.specs.TakenItems.{items_of_specification}
 use Rattle.behaviour_semantics.specs.Behaviour.{Specification}
 use Rattle.behaviour_semantics.specs.WellFormed.{Every}
 use Rattle.session_laws.specs.TextNames.{IsWordSpelling}
-use Rattle.lotos_top.specs.HandedOn.{Comes, goes_on, unread, stops, wants_memory, Gathers, comes_of, StandsFor, GotFile, Gathered}
-use Rattle.lotos_top.specs.HandedOn.{GatheringOutcome, all_gathered, faulty, without_file, memory_wanted, Becomes, nothing_yet, item}
+use Rattle.lotos_top.specs.HandedOn.{Comes, goes_on, unread, stops, wants_memory, Gathers, comes_of, StandsFor, GotFile, Gathered, GatheringOutcome, all_gathered, faulty, without_file, memory_wanted, Becomes, nothing_yet, item}
 use Rattle.type_definitions.specs.DeclaredTypes.{types_of}
 use Rattle.session_laws.specs.AcceptedNames.{AcceptedNamesAreOfText}
 use Rattle.session_laws.proofs.AcceptedParts.{StandsOn, accepted_on}

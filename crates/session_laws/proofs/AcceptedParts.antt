@@ -6,8 +6,7 @@ use Rattle.syntax_trees.specs.WrittenDefinition.{WrittenSpecification}
 use Rattle.behaviour_semantics.specs.Behaviour.{Specification}
 use Rattle.type_definitions.specs.DeclaredTypes.{types_of}
 use Rattle.tree_building.specs.Reading.{IsSpecificationReading}
-use Rattle.lotos_top.specs.HandedOn.{goes_on, Gathers, HaveData, StandsFor, Asked, Founded, FoundedBy, Acceptance, IsAccepted, GotFile}
-use Rattle.lotos_top.specs.HandedOn.{Gathered}
+use Rattle.lotos_top.specs.HandedOn.{goes_on, Gathers, HaveData, StandsFor, Asked, Founded, FoundedBy, Acceptance, IsAccepted, GotFile, Gathered}
 
 -- a part that goes on is not ended by the first of its two
 pub second : {X : Type 0} → ⊥ ⊎ X → X

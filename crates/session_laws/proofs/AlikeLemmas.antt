@@ -7,11 +7,7 @@ use Rattle.lotos_base.specs.WrittenTerm.{ListedOperation}
 use Rattle.behaviour_semantics.specs.Behaviour.{Specification, sorts_of}
 use Rattle.behaviour_semantics.specs.Label.{Label}
 use Rattle.behaviour_semantics.specs.Replacement.{with_values, binding_of}
-use Rattle.lotos_top.specs.HandedOn.{Beginning, Progress, head_text, shown_menu, Asked, Founded, Founds, IsFounded, start_of}
-use Rattle.lotos_top.specs.HandedOn.{StartsWithValues, Acceptance, accepted_with, AcceptsText, IsAccepted, got_from, ComesOfPart, ComesOver}
-use Rattle.lotos_top.specs.HandedOn.{asked_acceptance, GotFile, AreGotFrom, IsOpenedBy, Refused, with_spec, Comes, goes_on, unread, stops}
-use Rattle.lotos_top.specs.HandedOn.{wants_memory, Part, Then, Has, GetsFile, is_got, is_lacking, is_wanting, print, Finish, prints, serves}
-use Rattle.lotos_top.specs.HandedOn.{Done, Refusal, AreStartValues, IsStartFault}
+use Rattle.lotos_top.specs.HandedOn.{Beginning, Progress, head_text, shown_menu, Asked, Founded, Founds, IsFounded, start_of, StartsWithValues, Acceptance, accepted_with, AcceptsText, IsAccepted, got_from, ComesOfPart, ComesOver, asked_acceptance, GotFile, AreGotFrom, IsOpenedBy, Refused, with_spec, Comes, goes_on, unread, stops, wants_memory, Part, Then, Has, GetsFile, is_got, is_lacking, is_wanting, print, Finish, prints, serves, Done, Refusal, AreStartValues, IsStartFault}
 use Rattle.lotos_top.specs.Opening.{SessionBegins, opening_text}
 use Rattle.lotos_top.specs.Parts.{Finds, OpensAsked}
 use Rattle.session_laws.specs.SameBases.{AreSameBases}
@@ -26,8 +22,7 @@ use Rattle.session_laws.proofs.SameStarts.{starts_over, start_fault_over}
 use Rattle.session_laws.proofs.SameSessions.{sessions_agree}
 use Rattle.session_laws.proofs.SameTexts.{label_printed, menu_printed, head_printed, texts_agree}
 use Rattle.session_laws.proofs.SpelledAlike.{same_data, spelling_turned}
-use Rattle.lotos_top.proofs.HandedOn.{foundings_over_texts_are_one}
-use Rattle.lotos_top.proofs.HandedOn.{value_or}
+use Rattle.lotos_top.proofs.HandedOn.{foundings_over_texts_are_one, value_or}
 use Rattle.session_laws.specs.Alike.{AreFoundedAlike, AreAcceptedAlike, BeginAlike}
 use Rattle.session_laws.specs.AlikeLaws.{FoundedOver, RunAlike, WhatIsFoundedAlikeRunsAlike}
 use Rattle.session_laws.proofs.ReadBackLemmas.{got_first}

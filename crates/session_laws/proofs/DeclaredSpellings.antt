@@ -13,9 +13,8 @@ use Rattle.behaviour_semantics.proofs.ListLemmas.{Every-append}
 use Rattle.scope_parts.specs.Numbering.{asked_for, accepted}
 use Rattle.scope_parts.specs.Terms.{let_names}
 use Rattle.declaration_laws.proofs.NumberLemmas.{declarations_have_the_next_number}
-use Rattle.declaration_laws.specs.DeclarationOrder.{declared_variables_in, inner_variables, inners_variables, declared_variables}
+use Rattle.declaration_laws.specs.DeclarationOrder.{declared_variables_in, inner_variables, inners_variables, declared_variables, all_variables_of, Follow, HasVariableNumber}
 use Rattle.session_laws.specs.TextNames.{IsWordSpelling}
-use Rattle.declaration_laws.specs.DeclarationOrder.{all_variables_of, Follow, HasVariableNumber}
 use Rattle.session_laws.specs.FlatTextLaws.{HasSpecificationNames}
 use Rattle.session_laws.specs.BehaviourTextLaws.{IsVariableNamed}
 use Rattle.session_laws.specs.PrintedStates.{IsNamedProcess}

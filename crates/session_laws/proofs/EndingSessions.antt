@@ -12,14 +12,12 @@ use Rattle.behaviour_semantics.specs.TransitionLaws.{TransitionsAreDerived}
 use Rattle.behaviour_semantics.specs.WellFormed.{IsSpecification}
 use Rattle.behaviour_semantics.proofs.SupplyLemmas.{canon_values}
 use Rattle.session_histories.specs.Lawful.{LeadTo}
-use Rattle.session_histories.specs.Session.{Situation}
+use Rattle.session_histories.specs.Session.{Situation, derivations_of}
 use Rattle.session_laws.specs.HasFunctionality.{EndsWithin, AllAgree}
 use Rattle.session_laws.specs.ExitLaws.{EndsWith, ExitsHaveTheirSorts}
 use Rattle.session_laws.specs.AgreementLaws.{NoDisagreementIsAgreement}
-use Rattle.session_histories.specs.Session.{derivations_of}
 use Rattle.session_histories.specs.SessionLaws.{SessionsFollowDerivations, IsStateOver}
-use Rattle.lotos_top.specs.HandedOn.{Beginning, Standing, IsReached, Asked, Founded, FoundedBy, Acceptance, IsAccepted, start_of, goes_on}
-use Rattle.lotos_top.specs.HandedOn.{StartValuesAreGround, GotFile}
+use Rattle.lotos_top.specs.HandedOn.{Beginning, Standing, IsReached, Asked, Founded, FoundedBy, Acceptance, IsAccepted, start_of, goes_on, StartValuesAreGround, GotFile}
 use Rattle.lotos_top.specs.Opening.{SessionBegins}
 use Rattle.session_laws.specs.EndingSessions.{SessionsEndAsDeclared}
 use Rattle.session_laws.proofs.AcceptedParts.{second}

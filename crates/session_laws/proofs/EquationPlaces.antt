@@ -18,8 +18,7 @@ use Rattle.syntax_trees.specs.WrittenItem.{WrittenSections, WrittenTypeBody, Wri
 use Rattle.syntax_trees.specs.WrittenDefinition.{WrittenSpecification}
 use Rattle.scope_parts.specs.ScopeFault.{stands_before}
 use Rattle.scope_parts.specs.Order.{IsOneOfPlaces, Rising}
-use Rattle.declaration_laws.proofs.TokenOrder.{Rises, Within, rises_front, rises_back, nothing_within, here_within, in_left, in_right}
-use Rattle.declaration_laws.proofs.TokenOrder.{in_rest, both_within, before_parts, nothing_after, rising_both}
+use Rattle.declaration_laws.proofs.TokenOrder.{Rises, Within, rises_front, rises_back, nothing_within, here_within, in_left, in_right, in_rest, both_within, before_parts, nothing_after, rising_both}
 use Rattle.declaration_laws.proofs.LexedOrder.{tokens_rise}
 use Rattle.session_laws.specs.WrittenData.{own_equations, equations_of_items, StandApart}
 use Rattle.session_laws.specs.EquationPlaceLaws.{ReadEquationsStandApart}

@@ -1,9 +1,7 @@
 -- What comes of two parts one after another shows what comes of the first of them.
 use Rattle.std.proofs.Common.{inl, inr, ℕ, List, ◌++◌, Option, subst}
 use Rattle.lotos_base.specs.Outside.{Texts}
-use Rattle.lotos_top.specs.HandedOn.{Acceptance, Asked, IsAccepted, AcceptsText, Beginning, IsFounded, Founds, GetsFile, GotFile}
-use Rattle.lotos_top.specs.HandedOn.{AreGotFrom, got_from, Comes, goes_on, unread, stops, wants_memory, Part, Then, Telling, Lacks}
-use Rattle.lotos_top.specs.HandedOn.{ComesOfPart, ComesOver, StartsWithValues, Has, accepted_with, Refused, Print, Finish, refusal_printed}
+use Rattle.lotos_top.specs.HandedOn.{Acceptance, Asked, IsAccepted, AcceptsText, Beginning, IsFounded, Founds, GetsFile, GotFile, AreGotFrom, got_from, Comes, goes_on, unread, stops, wants_memory, Part, Then, Telling, Lacks, ComesOfPart, ComesOver, StartsWithValues, Has, accepted_with, Refused, Print, Finish, refusal_printed}
 use Rattle.lotos_top.specs.Opening.{SessionBegins}
 use Rattle.lotos_top.specs.Parts.{Finds, OpensSession, OpensAsked}
 use Rattle.lotos_top.proofs.HandedOn.{front, back}

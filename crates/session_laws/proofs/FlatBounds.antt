@@ -11,16 +11,12 @@ use Rattle.lotos_base.specs.Signature.{Signature, Sort, Operation}
 use Rattle.lotos_base.specs.Sorting.{head_sort_of}
 use Rattle.behaviour_semantics.specs.Behaviour.{Process, Specification}
 use Rattle.session_laws.specs.DataLaws.{HasFewVariables}
-use Rattle.flat_text.specs.DataText.{line, sorts_lines, operation_line, operations_lines, equations_lines, equation_line, for_all}
-use Rattle.flat_text.specs.DataText.{sorted_variable, sort_if_any, data_lines, data_text}
+use Rattle.flat_text.specs.DataText.{line, sorts_lines, operation_line, operations_lines, equations_lines, equation_line, for_all, sorted_variable, sort_if_any, data_lines, data_text}
 use Rattle.flat_text.specs.GivenNames.{given_names}
-use Rattle.flat_text.specs.EquationNames.{free_names}
-use Rattle.flat_text.specs.EquationNames.{equation_names, operation_names, variables_under_names, renamed_variables}
+use Rattle.flat_text.specs.EquationNames.{free_names, equation_names, operation_names, variables_under_names, renamed_variables}
 use Rattle.flat_text.specs.FreeNames.{least_free}
-use Rattle.flat_text.specs.FlatText.{heading}
-use Rattle.flat_text.specs.FlatText.{process_lines, processes_lines, where_lines, flat_naming, flat_text}
-use Rattle.printed_texts.specs.BehaviourText.{Naming, process_names}
-use Rattle.printed_texts.specs.BehaviourText.{behaviour_text}
+use Rattle.flat_text.specs.FlatText.{heading, process_lines, processes_lines, where_lines, flat_naming, flat_text}
+use Rattle.printed_texts.specs.BehaviourText.{Naming, process_names, behaviour_text}
 use Rattle.printed_texts.specs.Brackets.{commas, after_commas}
 use Rattle.printed_texts.specs.TermText.{term_text}
 use Rattle.session_laws.proofs.Given.{sort_within}

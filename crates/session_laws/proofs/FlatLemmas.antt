@@ -6,8 +6,7 @@ use Rattle.lotos_base.specs.Outside.{Texts}
 use Rattle.flat_text.specs.FlatText.{flat_text}
 use Rattle.session_laws.specs.AgreementLaws.{NoDisagreementIsAgreement}
 use Rattle.lotos_top.specs.Flattening.{flat_printed}
-use Rattle.lotos_top.specs.HandedOn.{Beginning, Founded, IsFounded, asked_acceptance, Comes, goes_on, Has, Telling, ComesOfPart, Refused, Print}
-use Rattle.lotos_top.specs.HandedOn.{print, Finish, prints, serves, refusal_printed, Done}
+use Rattle.lotos_top.specs.HandedOn.{Beginning, Founded, IsFounded, asked_acceptance, Comes, goes_on, Has, Telling, ComesOfPart, Refused, Print, print, Finish, prints, serves, refusal_printed, Done}
 use Rattle.lotos_top.specs.Opening.{opening_text}
 use Rattle.lotos_top.proofs.HandedOn.{outcomes_over_texts_are_one}
 use Rattle.session_laws.specs.Alike.{AreFoundedAlike}

@@ -24,8 +24,7 @@ use Rattle.session_laws.specs.TextNames.{HasTextNames}
 use Rattle.session_laws.specs.DepthLaws.{nodes_of_definitions, FlatTextsAreNoDeeper}
 use Rattle.session_laws.specs.SameSpelling.{AreDataSpelledAlike}
 use Rattle.session_laws.specs.WrittenData.{AreItemsWritten, AreDataWritten}
-use Rattle.lotos_top.specs.HandedOn.{Founded, FoundedBy, Founds, GetsFile, ReadsSpecification, Gathered, Gathers, goes_on, Becomes, item}
-use Rattle.lotos_top.specs.HandedOn.{nothing_yet, all_gathered, nothing_waits, a_type}
+use Rattle.lotos_top.specs.HandedOn.{Founded, FoundedBy, Founds, GetsFile, ReadsSpecification, Gathered, Gathers, goes_on, Becomes, item, nothing_yet, all_gathered, nothing_waits, a_type}
 use Rattle.lotos_top.proofs.HandedOn.{data_are_well_formed}
 use Rattle.session_laws.specs.AlikeLaws.{FoundedOver}
 use Rattle.session_laws.specs.FlatRuns.{FlattenedTextsStandForTheSame}

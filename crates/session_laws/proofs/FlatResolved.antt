@@ -15,8 +15,7 @@ use Rattle.syntax_trees.specs.WrittenDefinition.{WrittenHeading, WrittenInners, 
 use Rattle.behaviour_semantics.specs.Behaviour.{Behaviour, Process, Specification}
 use Rattle.behaviour_semantics.specs.WellFormed.{Every}
 use Rattle.printed_texts.specs.BehaviourText.{Naming, gate_text, called_text}
-use Rattle.declaration_laws.specs.DeclarationOrder.{gates_bound, process_gates, all_gates_of, Follow}
-use Rattle.declaration_laws.specs.DeclarationOrder.{HasGateNumber}
+use Rattle.declaration_laws.specs.DeclarationOrder.{gates_bound, process_gates, all_gates_of, Follow, HasGateNumber}
 use Rattle.scope_parts.specs.ScopeFault.{double_name}
 use Rattle.scope_parts.specs.Resolution.{resolved, faulty, put_in_front}
 use Rattle.scope_parts.specs.Scope.{Binding, Callable, bound_to, bind, bind_all, is_bound, callable_named, first_double}

@@ -20,8 +20,7 @@ use Rattle.scope_parts.specs.Resolution.{resolved}
 use Rattle.scope_parts.specs.Definitions.{SpecificationIs, first_numbers, declared_gates}
 use Rattle.declaration_laws.proofs.NumberLemmas.{declarations_have_the_next_number}
 use Rattle.session_laws.specs.TextNames.{IsWordSpelling, HasTextNames}
-use Rattle.declaration_laws.specs.DeclarationOrder.{gates_bound, variables_bound, process_gates, process_variables, all_gates_of, Follow}
-use Rattle.declaration_laws.specs.DeclarationOrder.{HasGateNumber, IsInOrderOfText}
+use Rattle.declaration_laws.specs.DeclarationOrder.{gates_bound, variables_bound, process_gates, process_variables, all_gates_of, Follow, HasGateNumber, IsInOrderOfText}
 use Rattle.flat_text.specs.DataText.{line, data_text}
 use Rattle.flat_text.specs.GivenNames.{given_names}
 use Rattle.flat_text.specs.FlatText.{where_lines, flat_text}

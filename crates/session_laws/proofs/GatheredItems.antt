@@ -3,10 +3,7 @@ use Rattle.std.proofs.Common.{◌≡◌, ℕ, List, [], ◌∷◌, ◌++◌, map
 use Rattle.lotos_base.specs.WrittenTerm.{PlacedName}
 use Rattle.syntax_trees.specs.WrittenItem.{WrittenItem, type_declared}
 use Rattle.tree_building.specs.Reading.{IsTypesReading}
-use Rattle.lotos_top.specs.HandedOn.{GotFile, Gathered, nothing_yet, with_type, Waiting, item, mention, GatheringOutcome, all_gathered}
-use Rattle.lotos_top.specs.HandedOn.{faulty, without_file, memory_wanted, MentionComesTo, read_before, one_too_many, in_place, not_read}
-use Rattle.lotos_top.specs.HandedOn.{no_file, wanted_before_text, wanted_behind_text, gathering_goes_on as goes_on}
-use Rattle.lotos_top.specs.HandedOn.{gathering_stops as stops, Becomes, nothing_waits, a_type, mentions, then, ends, memory_ends}
+use Rattle.lotos_top.specs.HandedOn.{GotFile, Gathered, nothing_yet, with_type, Waiting, item, mention, GatheringOutcome, all_gathered, faulty, without_file, memory_wanted, MentionComesTo, read_before, one_too_many, in_place, not_read, no_file, wanted_before_text, wanted_behind_text, gathering_goes_on as goes_on, gathering_stops as stops, Becomes, nothing_waits, a_type, mentions, then, ends, memory_ends}
 use Rattle.behaviour_semantics.specs.WellFormed.{Every}
 use Rattle.behaviour_semantics.proofs.ListLemmas.{Every-append}
 

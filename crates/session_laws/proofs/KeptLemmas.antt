@@ -5,13 +5,8 @@ use Rattle.syntax_trees.specs.WrittenDefinition.{WrittenSpecification}
 use Rattle.behaviour_semantics.specs.Behaviour.{Specification}
 use Rattle.behaviour_tree.specs.declared.definitions.Spec.{Spec}
 use Rattle.type_definitions.specs.DeclaredTypes.{types_of}
-use Rattle.lotos_top.specs.HandedOn.{Files, GotFile, AreGotFrom, Comes, goes_on, unread, stops, wants_memory, Part, Then, ends_both}
-use Rattle.lotos_top.specs.HandedOn.{EndsSo, IsDetermined, Lacks, Founded, IsFounded, FoundedBy, Founds, Gathered, GetsFile, is_got}
-use Rattle.lotos_top.specs.HandedOn.{ReadsSpecification, Gathers, Flattens, Resolves, StandsFor, Breaks, scopes_told, HaveData}
-use Rattle.lotos_top.specs.HandedOn.{HaveFault, types_told, KeepsSpecification, FunctionalityFault, differ_at, Disagree}
-use Rattle.lotos_top.specs.HandedOn.{Refused}
-use Rattle.lotos_top.proofs.HandedOn.{AfterScopes, AfterData, AfterTypes, value_or, looks_determined, gets_determined, front, back}
-use Rattle.lotos_top.proofs.HandedOn.{reads_determined, gathers_determined, types_are_decided, scopes_are_decided}
+use Rattle.lotos_top.specs.HandedOn.{Files, GotFile, AreGotFrom, Comes, goes_on, unread, stops, wants_memory, Part, Then, ends_both, EndsSo, IsDetermined, Lacks, Founded, IsFounded, FoundedBy, Founds, Gathered, GetsFile, is_got, ReadsSpecification, Gathers, Flattens, Resolves, StandsFor, Breaks, scopes_told, HaveData, HaveFault, types_told, KeepsSpecification, FunctionalityFault, differ_at, Disagree, Refused}
+use Rattle.lotos_top.proofs.HandedOn.{AfterScopes, AfterData, AfterTypes, value_or, looks_determined, gets_determined, front, back, reads_determined, gathers_determined, types_are_decided, scopes_are_decided}
 use Rattle.session_laws.specs.ReadBack.{IsResolvedAs}
 
 -- ---- Behind a part that goes on

@@ -9,16 +9,13 @@ use Rattle.session_laws.specs.TermDepth.{term_depth}
 use Rattle.session_laws.specs.TraceReadings.{IsWithinLine}
 use Rattle.session_histories.specs.Lawful.{HasStepped}
 use Rattle.session_histories.specs.TraceLine.{lines_of, TraceHeading, no_heading, of_steps, of_states}
-use Rattle.session_histories.specs.Replay.{goes_on, is_miscounted}
-use Rattle.session_histories.specs.Replay.{is_misread, is_unmet, is_replayed, LinesComeTo, all_done, one_goes_on, StatedLinesComeTo}
-use Rattle.session_histories.specs.Replay.{all_stated, both_go_on, ComeBehindName, ComeBehind}
+use Rattle.session_histories.specs.Replay.{goes_on, is_miscounted, is_misread, is_unmet, is_replayed, LinesComeTo, all_done, one_goes_on, StatedLinesComeTo, all_stated, both_go_on, ComeBehindName, ComeBehind}
 use Rattle.line_server.specs.Request.{Request, skip, show_menu, show_behaviour, show_trace, undo, leave, no_request, take_step, save, replay, show_normal, compare, list_values, list_instances, request_of}
 use Rattle.line_server.specs.Machine.{Reply}
 use Rattle.line_server.specs.Answered as served
 use Rattle.line_server.specs.Answered.{no_line, ended_by, behind_one}
 use Rattle.session_histories.specs.Replay as trace
-use Rattle.lotos_top.specs.HandedOn.{Standing, Befallen, StepAnswer, StepComesTo, SaveComesTo, ReplayComesTo, RequestComesTo, LineComesTo}
-use Rattle.lotos_top.specs.HandedOn.{after_step, UndoComesTo, is_undone, is_at_start, SessionPoint, LineIs, history_machine}
+use Rattle.lotos_top.specs.HandedOn.{Standing, Befallen, StepAnswer, StepComesTo, SaveComesTo, ReplayComesTo, RequestComesTo, LineComesTo, after_step, UndoComesTo, is_undone, is_at_start, SessionPoint, LineIs, history_machine}
 use Rattle.lotos_top.specs.HandedOn.step_answer as step
 use Rattle.lotos_top.specs.HandedOn.shelf_answer as shelf
 use Rattle.session_laws.specs.LineBounds.{IsWithinLines, LinesKeepWithin}

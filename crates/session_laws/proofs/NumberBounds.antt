@@ -12,8 +12,7 @@ use Rattle.lotos_base.proofs.Truth.{unit}
 use Rattle.line_server.specs.Line.{first_word, behind_word, stripped}
 use Rattle.line_server.specs.Request as request
 use Rattle.line_server.specs.Request.{Request, show_menu, show_behaviour, show_trace, undo, leave, take_step, save, replay, only, number_in_word, step_by, values_request_by, instances_by, request_with_name, asked_with, requested_by, requested_in, request_of}
-use Rattle.session_histories.specs.TraceLine.{StepLine, AroundArrow, is_number, leads_with_zero, step_line, has_return, with_arrow}
-use Rattle.session_histories.specs.TraceLine.{around_arrow, with_terms, first_digits, behind_digits}
+use Rattle.session_histories.specs.TraceLine.{StepLine, AroundArrow, is_number, leads_with_zero, step_line, has_return, with_arrow, around_arrow, with_terms, first_digits, behind_digits}
 use Rattle.session_histories.proofs.TraceLemmas.{all_are_digits}
 
 abbrev pub ten_digits : ℕ

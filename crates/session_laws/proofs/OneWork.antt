@@ -1,8 +1,7 @@
 -- One thing comes of the work on an accepted specification.
 use Rattle.std.proofs.Common.{◌≡◌, inl, inr, ℕ, List, ap, sym, ◌∙◌, subst}
 use Rattle.lotos_base.specs.Outside.{Texts}
-use Rattle.lotos_top.specs.HandedOn.{Acceptance, Asked, IsAccepted, Beginning, GotFile, AreGotFrom, got_from, Comes, goes_on, unread, stops}
-use Rattle.lotos_top.specs.HandedOn.{wants_memory, Then, Has, Lacks, ComesOfPart, ComesOver, Refused, Print, Finish}
+use Rattle.lotos_top.specs.HandedOn.{Acceptance, Asked, IsAccepted, Beginning, GotFile, AreGotFrom, got_from, Comes, goes_on, unread, stops, wants_memory, Then, Has, Lacks, ComesOfPart, ComesOver, Refused, Print, Finish}
 use Rattle.lotos_top.specs.Opening.{SessionBegins}
 use Rattle.lotos_top.specs.Parts.{OpensSession, OpensAsked}
 use Rattle.lotos_top.proofs.HandedOn.{outcomes_over_texts_are_one, value_or}

@@ -21,8 +21,7 @@ use Rattle.session_histories.specs.SessionLaws.{SessionsFollowDerivations}
 use Rattle.session_laws.specs.TextNames.{IsWordSpelling, IsOperationSpelling}
 use Rattle.session_histories.specs.BoundNames.{bound_names, names_in_bodies, names_at_hand, MovesKeepNames}
 use Rattle.session_histories.specs.StateTexts.{StateTextsAreOfNames}
-use Rattle.session_histories.specs.TextBytes.{AllPass}
-use Rattle.session_histories.specs.TextBytes.{is_printable}
+use Rattle.session_histories.specs.TextBytes.{AllPass, is_printable}
 use Rattle.printed_texts.specs.BehaviourText.{state_text}
 use Rattle.session_histories.proofs.MovedNames.{each_so}
 use Rattle.session_laws.proofs.PlainNames.{under_shorter}

@@ -14,11 +14,8 @@ use Rattle.session_laws.specs.SameSpelling.{AreDataSpelledAlike}
 use Rattle.session_laws.proofs.SameChecks.{pass_the_same_checks}
 use Rattle.session_laws.proofs.SameMenus.{do_the_same}
 use Rattle.session_laws.proofs.SpelledAlike.{same_data}
-use Rattle.lotos_top.specs.HandedOn.{Founded, founded_with, FoundedBy, Founds, got_from, Opens, OpensBook, FunctionalitiesAgree}
-use Rattle.lotos_top.specs.HandedOn.{ComesToAgreement, Guarded, IsGuardedIn, with_spec, Gathered, GotFile, AreGotFrom, goes_on, Resolves}
-use Rattle.lotos_top.specs.HandedOn.{GetsFile, is_got, ReadsSpecification, Gathers, ReadsOrder, Orders, Flattens}
-use Rattle.lotos_top.proofs.HandedOn.{AfterBook, AfterOrder, AfterRanks, AfterExits, AfterScopes, AfterData, AfterTypes, front, back}
-use Rattle.lotos_top.proofs.HandedOn.{foundings_over_texts_are_one}
+use Rattle.lotos_top.specs.HandedOn.{Founded, founded_with, FoundedBy, Founds, got_from, Opens, OpensBook, FunctionalitiesAgree, ComesToAgreement, Guarded, IsGuardedIn, with_spec, Gathered, GotFile, AreGotFrom, goes_on, Resolves, GetsFile, is_got, ReadsSpecification, Gathers, ReadsOrder, Orders, Flattens}
+use Rattle.lotos_top.proofs.HandedOn.{AfterBook, AfterOrder, AfterRanks, AfterExits, AfterScopes, AfterData, AfterTypes, front, back, foundings_over_texts_are_one}
 use Rattle.session_laws.specs.ReadBack.{IsResolvedAs, IsReadBack, IsGotUnder}
 use Rattle.session_laws.specs.AlikeLaws.{FoundedOver, TextsReadBackAreAccepted}
 use Rattle.session_laws.proofs.KeptLemmas.{IsKept, kept_there}

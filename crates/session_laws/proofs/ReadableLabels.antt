@@ -3,10 +3,9 @@ use Rattle.std.proofs.Common.{sym, subst}
 use Rattle.lotos_base.specs.Equation.{Data, IsWellFormedData}
 use Rattle.type_definitions.specs.DeclaredTypes.{types_of}
 use Rattle.behaviour_semantics.specs.Behaviour.{Behaviour, Specification}
-use Rattle.declaration_laws.specs.VisibleGates.{IsOneOf, UsesOnly}
+use Rattle.declaration_laws.specs.VisibleGates.{IsOneOf, UsesOnly, MovesStayAtGates}
 use Rattle.session_laws.specs.LabelLaws.{HasReadableNames}
 use Rattle.session_laws.specs.MenuReadings.{IsShownMenu, MenuIsReadBack, MenusAreReadBack}
-use Rattle.declaration_laws.specs.VisibleGates.{MovesStayAtGates}
 use Rattle.declaration_laws.specs.DeclaredGates.{HasDeclaredGates, TextsHaveDeclaredGates}
 use Rattle.session_histories.specs.Lawful.{LeadTo}
 use Rattle.session_histories.specs.Session.{Situation, derivations_of}

@@ -2,8 +2,7 @@
 use Rattle.std.proofs.Common.{◌≡◌, ◌⊎◌, inl, inr, ℕ, Bool, true, false, List, [], ◌∷◌, ◌++◌, Some, ap, sym, ◌∙◌, subst}
 use Rattle.line_server.specs.Answered as served
 use Rattle.line_server.specs.Answered.{no_line, ended_by, behind_one}
-use Rattle.lotos_top.specs.HandedOn.{SessionPoint, history_machine, Beginning, ShelfState, Gives, Asked, Did, Comes, goes_on}
-use Rattle.lotos_top.specs.HandedOn.{session, Print, Finish, prints, serves, Ended}
+use Rattle.lotos_top.specs.HandedOn.{SessionPoint, history_machine, Beginning, ShelfState, Gives, Asked, Did, Comes, goes_on, session, Print, Finish, prints, serves, Ended}
 use Rattle.lotos_top.specs.Run.{Streams, Ran}
 use Rattle.lotos_top.specs.Work.{work_of}
 use Rattle.lotos_top.proofs.HandedOn.{got_alone}

@@ -11,12 +11,9 @@ use Rattle.behaviour_tree.specs.declared.definitions.Spec.{Spec}
 use Rattle.certificate_theory.specs.SameData.{AreSameData}
 use Rattle.certificate_theory.proofs.SameSignatures.{AgreeSignatures, has_sort}
 use Rattle.certificate_theory.proofs.InterchangeableData.{signatures_agree}
-use Rattle.session_laws.specs.HasFunctionality.{HaveExitSorts, HasFunctionality, of_stop, of_exit, of_action, of_inner, of_guard, of_choice}
-use Rattle.session_laws.specs.HasFunctionality.{of_parallel, of_hide, of_enable, of_disable, of_let, of_value, of_gate, of_par, of_call}
-use Rattle.declaration_laws.specs.SameSpecification.{AreOneProcess, AreSameProcesses}
-use Rattle.session_laws.specs.HasFunctionality.{of_relabel, EndsWithin, AllAgree}
+use Rattle.session_laws.specs.HasFunctionality.{HaveExitSorts, HasFunctionality, of_stop, of_exit, of_action, of_inner, of_guard, of_choice, of_parallel, of_hide, of_enable, of_disable, of_let, of_value, of_gate, of_par, of_call, of_relabel, EndsWithin, AllAgree}
+use Rattle.declaration_laws.specs.SameSpecification.{AreOneProcess, AreSameProcesses, AreSameSpecifications}
 use Rattle.session_laws.specs.AgreementLaws.{NoDisagreementIsAgreement}
-use Rattle.declaration_laws.specs.SameSpecification.{AreSameSpecifications}
 use Rattle.process_checks.specs.Functionality.{all_disagreements}
 use Rattle.session_laws.proofs.SamePlaces.{like, processes_found}
 

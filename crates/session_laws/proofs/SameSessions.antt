@@ -8,8 +8,7 @@ use Rattle.behaviour_semantics.specs.Menu.{Exact}
 use Rattle.behaviour_semantics.specs.WellFormed.{AreOver}
 use Rattle.certificate_theory.proofs.InterchangeableData.{data_turned}
 use Rattle.session_histories.specs.Session.{SessionBasis, Item, Situation, PastStep, Progress, first_situation}
-use Rattle.session_histories.specs.Lawful.{IsSituation, IsLawfulItem}
-use Rattle.session_histories.specs.Lawful.{LeadTo, IsLawful, HasStepped}
+use Rattle.session_histories.specs.Lawful.{IsSituation, IsLawfulItem, LeadTo, IsLawful, HasStepped}
 use Rattle.session_histories.specs.SessionLaws.{IsStateOver}
 use Rattle.printed_texts.specs.HandedOn.{canonical_derivation}
 use Rattle.session_laws.specs.SameBases.{AreSameBases}

@@ -4,8 +4,7 @@ use Rattle.lotos_base.specs.Signature.{Signature}
 use Rattle.lotos_base.specs.Equation.{Data}
 use Rattle.lotos_base.specs.Term.{Term}
 use Rattle.sort_terms.specs.ReadingOutcome.{answered, refused}
-use Rattle.lotos_top.specs.HandedOn.{Refusal, WordTerm, HaveValues, HaveTermFault, AreStartValues, IsStartFault, misread, miscounted}
-use Rattle.lotos_top.specs.HandedOn.{misfitting}
+use Rattle.lotos_top.specs.HandedOn.{Refusal, WordTerm, HaveValues, HaveTermFault, AreStartValues, IsStartFault, misread, miscounted, misfitting}
 use Rattle.certificate_theory.specs.SameData.{AreSameData}
 use Rattle.certificate_theory.proofs.SameSignatures.{AgreeSignatures}
 use Rattle.certificate_theory.proofs.InterchangeableData.{signatures_agree}

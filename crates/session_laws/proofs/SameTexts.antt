@@ -10,13 +10,8 @@ use Rattle.behaviour_semantics.specs.Solving.{Entry}
 use Rattle.certificate_theory.specs.SameData.{AreSameEquations}
 use Rattle.declaration_laws.specs.SameSpecification.{AreSameSpecifications}
 use Rattle.printed_texts.specs.Brackets.{round, square, commas}
-use Rattle.printed_texts.specs.BehaviourText.{Naming, process_names, gate_text, gates_text}
-use Rattle.printed_texts.specs.BehaviourText.{called_text, declared_text, test_text, predicate_text, offer_text, offers_text, exit_value_text}
-use Rattle.printed_texts.specs.BehaviourText.{round_list, square_list, sign_text, enable_sign, binding_text, pair_text, unit_text}
-use Rattle.printed_texts.specs.BehaviourText.{between_blanks, behaviour_text, state_text}
-use Rattle.printed_texts.specs.MenuText.{entry_term_text, name_text, values_text}
-use Rattle.printed_texts.specs.MenuText.{exit_values_text, label_text, sorted_texts, for_text, condition_text, if_text, entry_text}
-use Rattle.printed_texts.specs.MenuText.{lines_text, menu_text}
+use Rattle.printed_texts.specs.BehaviourText.{Naming, process_names, gate_text, gates_text, called_text, declared_text, test_text, predicate_text, offer_text, offers_text, exit_value_text, round_list, square_list, sign_text, enable_sign, binding_text, pair_text, unit_text, between_blanks, behaviour_text, state_text}
+use Rattle.printed_texts.specs.MenuText.{entry_term_text, name_text, values_text, exit_values_text, label_text, sorted_texts, for_text, condition_text, if_text, entry_text, lines_text, menu_text}
 use Rattle.printed_texts.specs.ReportLines.{head_text}
 use Rattle.printed_texts.specs.TermText.{sort_text, numbered_text, term_text}
 use Rattle.session_laws.specs.SameSpelling.{AreSortsSpelledAlike, AreSignaturesSpelledAlike, AreDataSpelledAlike}

@@ -9,19 +9,14 @@ use Rattle.line_server.specs.Answered as served
 use Rattle.line_server.specs.Answered.{no_line, ended_by, behind_one}
 use Rattle.line_server.specs.Machine.{Reply}
 use Rattle.line_server.specs.Request.{Request}
-use Rattle.session_histories.specs.Session.{SessionBasis}
+use Rattle.session_histories.specs.Session.{SessionBasis, Situation, Progress, first_situation}
 use Rattle.session_laws.specs.TextNames.{IsWordSpelling, HasTextNames}
 use Rattle.session_laws.specs.TraceReadings.{HasNamesOfText, HasTextTrace, TracesAreReplayed}
-use Rattle.session_histories.specs.Session.{Situation, Progress, first_situation}
 use Rattle.session_histories.specs.Lawful.{LeadTo}
-use Rattle.session_histories.specs.Replay.{LinesOutcome, ReplayRefusal, ReplayIs, goes_on}
-use Rattle.session_histories.specs.Replay.{stops}
+use Rattle.session_histories.specs.Replay.{LinesOutcome, ReplayRefusal, ReplayIs, goes_on, stops}
 use Rattle.session_histories.specs.TraceLaws.{trace_of}
 use Rattle.session_histories.specs.BoundNames.{bound_names, names_in_bodies, names_at_hand, MovesKeepNames}
-use Rattle.lotos_top.specs.HandedOn.{Standing, shown_trace, Befallen, SaveComesTo, is_too_long, is_unwritten, is_saved, ReplayComesTo}
-use Rattle.lotos_top.specs.HandedOn.{is_failed, is_missing, is_long, is_refused, is_replayed, trace_limit, HasPut, StandsUnder, saved_text}
-use Rattle.lotos_top.specs.HandedOn.{replayed_text, RequestComesTo, ShelfCounts, SessionPoint, history_machine, Beginning, CanBegin}
-use Rattle.lotos_top.specs.HandedOn.{IsReached, LinesLeadOn, Acceptance}
+use Rattle.lotos_top.specs.HandedOn.{Standing, shown_trace, Befallen, SaveComesTo, is_too_long, is_unwritten, is_saved, ReplayComesTo, is_failed, is_missing, is_long, is_refused, is_replayed, trace_limit, HasPut, StandsUnder, saved_text, replayed_text, RequestComesTo, ShelfCounts, SessionPoint, history_machine, Beginning, CanBegin, IsReached, LinesLeadOn, Acceptance}
 use Rattle.lotos_top.specs.Opening.{SessionBegins}
 use Rattle.behaviour_semantics.specs.Behaviour.{Process, Specification}
 use Rattle.behaviour_semantics.proofs.EveryLemmas.{every_front, every_back}

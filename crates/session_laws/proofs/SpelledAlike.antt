@@ -9,9 +9,7 @@ use Rattle.lotos_base.specs.Term.{Term, Terms, variable, node, no_terms, term_th
 use Rattle.lotos_base.specs.Twins.{form_eq, are_twins, has_twin}
 use Rattle.lotos_base.specs.Equation.{Data, Variable}
 use Rattle.printed_texts.specs.Brackets.{bracketed}
-use Rattle.printed_texts.specs.TermText.{sort_name, sort_text, Phrase, plain_phrase, operand_text, of_text, arguments_text}
-use Rattle.printed_texts.specs.TermText.{prefix_phrase, operator_text, infix_phrase, application_phrase, node_phrase, phrase_of}
-use Rattle.printed_texts.specs.TermText.{phrases_of, term_text}
+use Rattle.printed_texts.specs.TermText.{sort_name, sort_text, Phrase, plain_phrase, operand_text, of_text, arguments_text, prefix_phrase, operator_text, infix_phrase, application_phrase, node_phrase, phrase_of, phrases_of, term_text}
 use Rattle.certificate_theory.specs.SameData.{AreSameSorts, AreSameOperations, AreSameData}
 use Rattle.certificate_theory.proofs.InterchangeableData.{data_turned}
 use Rattle.session_laws.specs.SameSpelling.{AreSortsSpelledAlike, IsSpelledAs, AreOperationsSpelledAlike, AreSignaturesSpelledAlike, AreDataSpelledAlike}

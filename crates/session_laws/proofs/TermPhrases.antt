@@ -16,9 +16,7 @@ use Rattle.syntax_trees.specs.LeftGrouping.{only, at_last}
 use Rattle.lotos_rows.specs.Words.{Between, between}
 use Rattle.lotos_rows.specs.Names.{IsOperationName}
 use Rattle.lotos_rows.specs.Terms.{applied, infix_term, IsTerm, grouped_factors, one_factor, more_factors, IsFactor, without_sort, IsBase, without_arguments, with_arguments, AreTerms, one_term, more_terms}
-use Rattle.session_histories.specs.HandedOn.{spaced, round, bracketed, commas, sort_name, sort_text, phrase_text, operand_text}
-use Rattle.session_histories.specs.HandedOn.{arguments_text, prefix_phrase, operator_text, between_text, infix_phrase, application_phrase}
-use Rattle.session_histories.specs.HandedOn.{node_phrase, phrase_of, phrases_of}
+use Rattle.session_histories.specs.HandedOn.{spaced, round, bracketed, commas, sort_name, sort_text, phrase_text, operand_text, arguments_text, prefix_phrase, operator_text, between_text, infix_phrase, application_phrase, node_phrase, phrase_of, phrases_of}
 use Rattle.session_laws.specs.WrittenAs.{IsWrittenAs, AreWrittenAs}
 use Rattle.session_laws.specs.TextNames.{IsOperationSpelling, HasTextNames}
 use Rattle.session_laws.proofs.CutPieces.{IsCut, cut_joined}

@@ -22,9 +22,8 @@ use Rattle.lotos_lexer.specs.Pieces.{close_at, comment, token, piece_at}
 use Rattle.lotos_lexer.specs.Tokens as lexed
 use Rattle.lotos_lexer.specs.Tokens.{Lexed, behind, token_at, with_token, list_open_behind, cut, start, tokens_of}
 use Rattle.lotos_lexer.proofs.Spans.{word_length-le}
-use Rattle.session_laws.proofs.WordLemmas.{word_again, run_within, run_again, taken_long, first_stays, word_some, run_some}
+use Rattle.session_laws.proofs.WordLemmas.{word_again, run_within, run_again, taken_long, first_stays, word_some, run_some, first_alphanumeric}
 use Rattle.session_laws.proofs.CutPieces.{offset_behind}
-use Rattle.session_laws.proofs.WordLemmas.{first_alphanumeric}
 use Rattle.lotos_rows.specs.Names.{spelled}
 use Rattle.behaviour_semantics.specs.WellFormed.{Every}
 use Rattle.session_laws.specs.TextNames.{IsWordSpelling, IsDigitSpelling, IsSignSpelling}

@@ -14,8 +14,7 @@ use Rattle.behaviour_semantics.specs.Transition.{Transition}
 use Rattle.behaviour_semantics.specs.TransitionLaws.{TransitionsAreDerived}
 use Rattle.behaviour_semantics.specs.WellFormed.{IsSpecification}
 use Rattle.declaration_laws.specs.VisibleGates.{IsOneOf, IsAt, UsesOnly, MovesStayAtGates}
-use Rattle.declaration_laws.specs.DeclaredGates.{HasDistinctGates, HasDeclaredGates}
-use Rattle.declaration_laws.specs.DeclaredGates.{TextsHaveDeclaredGates}
+use Rattle.declaration_laws.specs.DeclaredGates.{HasDistinctGates, HasDeclaredGates, TextsHaveDeclaredGates}
 use Rattle.declaration_laws.specs.EntryGates.{EntriesStayAtGates}
 use Rattle.session_histories.specs.Lawful.{LeadTo}
 use Rattle.session_histories.specs.Session.{Situation, derivations_of}

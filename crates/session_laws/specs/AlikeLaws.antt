@@ -1,8 +1,7 @@
 -- A text that stands for the same as an accepted specification is accepted too, and what is accepted alike runs alike.
 use Rattle.std.specs.Prelude.{◌≡◌, ℕ, List, Option, Some}
 use Rattle.lotos_base.specs.Outside.{Texts}
-use Rattle.lotos_top.specs.HandedOn.{Beginning, Acceptance, Founded, IsFounded, ComesOfPart, ComesOver, asked_acceptance, Comes, goes_on, stops}
-use Rattle.lotos_top.specs.HandedOn.{Refused, check, session, Print, prints, serves}
+use Rattle.lotos_top.specs.HandedOn.{Beginning, Acceptance, Founded, IsFounded, ComesOfPart, ComesOver, asked_acceptance, Comes, goes_on, stops, Refused, check, session, Print, prints, serves}
 use Rattle.lotos_top.specs.Work.{work_of}
 use Rattle.session_laws.specs.ReadBack.{IsReadBack, IsGotUnder}
 use Rattle.session_laws.specs.Alike.{AreFoundedAlike, AreAcceptedAlike, BeginAlike}

@@ -5,8 +5,7 @@ use Rattle.lotos_base.specs.Limits.{text_limit}
 use Rattle.lotos_base.specs.Outside.{Texts}
 use Rattle.flat_text.specs.FlatText.{flat_text}
 use Rattle.lotos_top.specs.Flattening.{flat_printed}
-use Rattle.lotos_top.specs.HandedOn.{Beginning, Acceptance, Founded, IsFounded, ComesOfPart, ComesOver, asked_acceptance, Comes, goes_on, stops}
-use Rattle.lotos_top.specs.HandedOn.{Refused, check, session, flattening, Print, Finish, prints, serves}
+use Rattle.lotos_top.specs.HandedOn.{Beginning, Acceptance, Founded, IsFounded, ComesOfPart, ComesOver, asked_acceptance, Comes, goes_on, stops, Refused, check, session, flattening, Print, Finish, prints, serves}
 use Rattle.lotos_top.specs.Settled.{WorkOver}
 use Rattle.session_laws.specs.Alike.{AreFoundedAlike, AreAcceptedAlike, BeginAlike}
 use Rattle.session_laws.specs.AlikeLaws.{FoundedOver}

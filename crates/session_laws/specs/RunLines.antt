@@ -2,8 +2,7 @@
 use Rattle.std.specs.Prelude.{◌≡◌, ◌⊎◌, ℕ, Bool, true, false, List, ◌∷◌, ◌++◌, Some}
 use Rattle.line_server.specs.Answered as served
 use Rattle.line_server.specs.Machine.{Reply}
-use Rattle.lotos_top.specs.HandedOn.{SessionPoint, LineIs, history_machine, Beginning, ShelfState, Gives, Asked, Acceptance, IsAccepted}
-use Rattle.lotos_top.specs.HandedOn.{goes_on, GotFile, session, serves, Ended}
+use Rattle.lotos_top.specs.HandedOn.{SessionPoint, LineIs, history_machine, Beginning, ShelfState, Gives, Asked, Acceptance, IsAccepted, goes_on, GotFile, session, serves, Ended}
 use Rattle.lotos_top.specs.Opening.{SessionBegins}
 use Rattle.lotos_top.specs.Run.{Streams, Ran}
 

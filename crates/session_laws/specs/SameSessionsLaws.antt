@@ -5,8 +5,7 @@ use Rattle.lotos_base.specs.Term.{Term}
 use Rattle.behaviour_semantics.specs.Behaviour.{Behaviour}
 use Rattle.behaviour_semantics.specs.Label.{Label}
 use Rattle.session_histories.specs.Session.{SessionBasis, Item, Situation, PastStep, Progress}
-use Rattle.session_histories.specs.Lawful.{IsSituation, IsLawfulItem, LeadTo, IsLawful}
-use Rattle.session_histories.specs.Lawful.{HasStepped}
+use Rattle.session_histories.specs.Lawful.{IsSituation, IsLawfulItem, LeadTo, IsLawful, HasStepped}
 use Rattle.session_histories.specs.SessionLaws.{IsStateOver}
 use Rattle.session_laws.specs.SameBases.{AreSameBases}
 

@@ -6,8 +6,7 @@ use Rattle.line_server.specs.Answered as served
 use Rattle.line_server.specs.Machine.{Reply}
 use Rattle.line_server.specs.Request.{save, replay, request_of}
 use Rattle.session_histories.specs.Session.{Progress}
-use Rattle.lotos_top.specs.HandedOn.{SessionPoint, point, LineIs, history_machine, saved_text, replayed_text, Beginning, standing_at, Asked}
-use Rattle.lotos_top.specs.HandedOn.{Acceptance, IsAccepted, goes_on, GotFile}
+use Rattle.lotos_top.specs.HandedOn.{SessionPoint, point, LineIs, history_machine, saved_text, replayed_text, Beginning, standing_at, Asked, Acceptance, IsAccepted, goes_on, GotFile}
 use Rattle.lotos_top.specs.Opening.{SessionBegins}
 
 -- The session that began so stands there, behind lines that were answered beside some shelf. The shelf may have counted faults on
