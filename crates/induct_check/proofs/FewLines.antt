@@ -3,16 +3,17 @@ use Rattle.std.proofs.Common.{◌≡◌, ◌≤◌, ◌<◌, ◌+◌, ◌==◌, 
 use Rattle.lotos_base.specs.Equation.{Variable}
 use Rattle.lotos_base.specs.Signature.{Signature}
 use Rattle.lotos_base.specs.WrittenTerm.{WrittenTerm}
-use Rattle.induct_parts.specs.HandedOn.{Cover, TreeLine, PatternTree, ProofLine, Lemma, lines_of_trees, lines_of_tree, lines_of_lemma}
+use Rattle.certificate_theory.specs.Patterns.{Pattern}
+use Rattle.induct_parts.specs.HandedOn.{Cover, TreeLine, split_pattern, leaf_here, PatternTree, ProofLine, Lemma, lines_of_trees, lines_of_tree, lines_of_lemma}
 use Rattle.induct_parts.specs.CertificateView.{lines_of_lemmas, lines_of_certificate}
 use Rattle.induct_check.specs.CertificateLines.{LineForm, cover_form, tree_form, split_form, lemma_form, left_form, right_form, use_form, leaf_form, same_form, no_form, line_form_of, path_of, byte_before, parts_at}
-use Rattle.induct_check.specs.CertificateReading.{OpenPart, among_covers, in_tree, behind_variables, behind_left, in_proof, NamedCase, ReadSoFar, LineTask, read_cover, read_tree, tree_line, read_variables, read_left, read_right, proof_line, no_task, among_covers_task, pattern_split, in_tree_task, left_task, right_task, variable_split, in_proof_task, line_task_of, Piece, new_cover, new_tree, new_tree_line, new_variables, new_left, new_lemma, new_proof_line, GivesPiece, with_last, tree_with, lemma_with, stated_lemma, proof_behind, with_piece}
+use Rattle.induct_check.specs.CertificateReading.{OpenPart, among_covers, in_tree, behind_variables, behind_left, in_proof, NamedCase, ReadSoFar, LineTask, read_cover, read_tree, tree_line, read_variables, read_left, read_right, proof_line, no_task, among_covers_task, pattern_split, first_line, in_tree_task, left_task, right_task, variable_split, in_proof_task, line_task_of, Piece, new_cover, new_tree, new_tree_line, new_variables, new_left, new_lemma, new_proof_line, GivesPiece, with_last, tree_with, lemma_with, stated_lemma, tree_behind, proof_behind, with_piece}
 use Rattle.induct_check.specs.TextFaults.{ReadText, LinesReadTo, ends, lacks_a_line, lacks_line_feed, goes_on, stops, stops_at_left}
 
 -- the lines of the head of a lemma that were read, where its proof has not begun
 abbrev waiting : OpenPart → ℕ
 waiting among_covers = 0
-waiting in_tree = 0
+waiting (in_tree left) = 0
 waiting (behind_variables variables) = 1
 waiting (behind_left variables left) = 2
 waiting (in_proof left) = 0
@@ -20,7 +21,7 @@ waiting (in_proof left) = 0
 abbrev asks_behind : LineTask → ℕ
 asks_behind (read_cover sort items) = 0
 asks_behind (read_tree item) = 0
-asks_behind (tree_line line) = 0
+asks_behind (tree_line line patterns) = 0
 asks_behind (read_variables text) = 0
 asks_behind (read_left variables term) = 1
 asks_behind (read_right variables left term) = 2
@@ -39,21 +40,28 @@ among_asks leaf_form = omega arith
 among_asks same_form = omega arith
 among_asks no_form = omega arith
 
-pattern_asks : (path : Option (List ℕ)) → asks_behind (pattern_split path) ≤ 0
-pattern_asks None = omega arith
-pattern_asks (Some path) = omega arith
+line_asks : (signature : Signature) (covers : List Cover) (left : List Pattern) (line : TreeLine)
+    → asks_behind (first_line signature covers left line) ≤ 0
+line_asks signature covers [] line = omega arith
+line_asks signature covers (p ∷ ps) line = omega arith
 
-tree_asks : (form : LineForm) → asks_behind (in_tree_task form) ≤ 0
-tree_asks (cover_form s t) = omega arith
-tree_asks (tree_form t) = omega arith
-tree_asks (split_form w) = pattern_asks (path_of w)
-tree_asks (lemma_form v) = omega arith
-tree_asks (left_form t) = omega arith
-tree_asks (right_form t) = omega arith
-tree_asks (use_form u) = omega arith
-tree_asks leaf_form = omega arith
-tree_asks same_form = omega arith
-tree_asks no_form = omega arith
+pattern_asks : (signature : Signature) (covers : List Cover) (left : List Pattern) (path : Option (List ℕ))
+    → asks_behind (pattern_split signature covers left path) ≤ 0
+pattern_asks signature covers left None = omega arith
+pattern_asks signature covers left (Some path) = line_asks signature covers left (split_pattern path)
+
+tree_asks : (signature : Signature) (covers : List Cover) (left : List Pattern) (form : LineForm)
+    → asks_behind (in_tree_task signature covers left form) ≤ 0
+tree_asks signature covers left (cover_form s t) = omega arith
+tree_asks signature covers left (tree_form t) = omega arith
+tree_asks signature covers left (split_form w) = pattern_asks signature covers left (path_of w)
+tree_asks signature covers left (lemma_form v) = omega arith
+tree_asks signature covers left (left_form t) = omega arith
+tree_asks signature covers left (right_form t) = omega arith
+tree_asks signature covers left (use_form u) = omega arith
+tree_asks signature covers left leaf_form = line_asks signature covers left leaf_here
+tree_asks signature covers left same_form = omega arith
+tree_asks signature covers left no_form = omega arith
 
 left_asks : (variables : List Variable) (form : LineForm) → asks_behind (left_task variables form) ≤ 1
 left_asks variables (cover_form s t) = omega arith
@@ -100,7 +108,7 @@ proof_asks signature covers left no_form = omega arith
 task_asks : (signature : Signature) (covers : List Cover) (part : OpenPart) (form : LineForm)
     → asks_behind (line_task_of signature covers part form) ≤ waiting part
 task_asks signature covers among_covers form = among_asks form
-task_asks signature covers in_tree form = tree_asks form
+task_asks signature covers (in_tree left) form = tree_asks signature covers left form
 task_asks signature covers (behind_variables variables) form = left_asks variables form
 task_asks signature covers (behind_left variables left) form = right_asks variables left form
 task_asks signature covers (in_proof left) form = proof_asks signature covers left form
@@ -140,16 +148,23 @@ read_lines reading = lines_of_certificate reading.certificate + waiting reading.
 
 same_waiting : (cases : Option (List NamedCase)) (part : OpenPart) → waiting (proof_behind cases part) ≡ waiting part
 same_waiting cases among_covers = refl
-same_waiting cases in_tree = refl
+same_waiting cases (in_tree left) = refl
 same_waiting cases (behind_variables variables) = refl
 same_waiting cases (behind_left variables left) = refl
 same_waiting cases (in_proof left) = refl
 
+tree_waiting : (patterns : List Pattern) (part : OpenPart) → waiting (tree_behind patterns part) ≡ waiting part
+tree_waiting patterns among_covers = refl
+tree_waiting patterns (in_tree left) = refl
+tree_waiting patterns (behind_variables variables) = refl
+tree_waiting patterns (behind_left variables left) = refl
+tree_waiting patterns (in_proof left) = refl
+
 -- what a piece adds, where so many lines of a head must have been read for it
 abbrev needs : Piece → ℕ
 needs (new_cover cover) = 0
-needs (new_tree f) = 0
-needs (new_tree_line line) = 0
+needs (new_tree f pattern) = 0
+needs (new_tree_line line patterns) = 0
 needs (new_variables variables) = 0
 needs (new_left variables left) = 1
 needs (new_lemma variables statement) = 2
@@ -158,9 +173,10 @@ needs (new_proof_line line cases) = 0
 one_more : (reading : ReadSoFar) (piece : Piece) → needs piece ≤ waiting reading.part
     → read_lines (with_piece reading piece) ≤ read_lines reading + 1
 one_more reading (new_cover cover) enough = omega (arith, more_covers reading.certificate.covers cover)
-one_more reading (new_tree f) enough =
+one_more reading (new_tree f pattern) enough =
     omega (arith, more_trees reading.certificate.trees (record { operation = f; lines = [] }))
-one_more reading (new_tree_line line) enough = omega (arith, tree_line_more line reading.certificate.trees)
+one_more reading (new_tree_line line patterns) enough =
+    omega (arith, tree_line_more line reading.certificate.trees, tree_waiting patterns reading.part)
 one_more reading (new_variables variables) enough = omega arith
 one_more reading (new_left variables left) enough = omega (arith, enough)
 one_more reading (new_lemma variables statement) enough =
@@ -170,8 +186,8 @@ one_more reading (new_proof_line line cases) enough =
 
 piece_needs : (signature : Signature) (task : LineTask) (piece : Piece) → GivesPiece signature task piece → needs piece ≤ asks_behind task
 piece_needs signature (read_cover sort items) piece h = subst (λ (p : Piece). needs p ≤ 0) (sym h.2) (omega arith)
-piece_needs signature (read_tree item) piece h = subst (λ (p : Piece). needs p ≤ 0) (sym h.2) (omega arith)
-piece_needs signature (tree_line line) piece h = subst (λ (p : Piece). needs p ≤ 0) (sym h) (omega arith)
+piece_needs signature (read_tree item) piece h = subst (λ (p : Piece). needs p ≤ 0) (sym h.4) (omega arith)
+piece_needs signature (tree_line line patterns) piece h = subst (λ (p : Piece). needs p ≤ 0) (sym h) (omega arith)
 piece_needs signature (read_variables text) piece h = subst (λ (p : Piece). needs p ≤ 0) (sym h.2) (omega arith)
 piece_needs signature (read_left variables term) piece h = subst (λ (p : Piece). needs p ≤ 1) (sym h.2) (omega arith)
 piece_needs signature (read_right variables left term) piece h = subst (λ (p : Piece). needs p ≤ 2) (sym h.4) (omega arith)

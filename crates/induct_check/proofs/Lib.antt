@@ -1,15 +1,16 @@
+pub mod AlignedLemmas
 pub mod BookLemmas
 pub mod CaseSteps
 pub mod FewLines
 pub mod FormLemmas
 pub mod ItemLemmas
 pub mod JudgeLemmas
-pub mod LeafSteps
 pub mod LineSteps
 pub mod NameLemmas
 pub mod NumberLemmas
 pub mod OutcomeLemmas
 pub mod PartLemmas
+pub mod PatternSteps
 pub mod PieceLemmas
 pub mod ReadingLemmas
 pub mod ShortParts
@@ -17,6 +18,7 @@ pub mod StatedLemmas
 pub mod StopLemmas
 pub mod TokenSteps
 pub mod UseWords
+pub mod TreeSteps
 pub mod VariableLemmas
 pub mod VariableSteps
 pub mod WrittenLemmas

@@ -1,8 +1,8 @@
 -- A text of a certificate is read in one way, and has one first fault, or none where it is right.
 use Rattle.std.proofs.Common.{◌≡◌, ◌<◌, ℕ, zero, suc, List, [], ◌∷◌, ◌++◌, length, Option, None, Some, slice_get, refl, sym, ap, ◌∙◌, subst}
-use Rattle.std.proofs.lemmas.Option.{slice_get_within}
+use Rattle.std.proofs.lemmas.Option.{slice_get_within, same_Some}
 use Rattle.lotos_base.specs.Equation.{Variable}
-use Rattle.lotos_base.specs.Signature.{Signature, IsWellFormedSignature}
+use Rattle.lotos_base.specs.Signature.{Signature, Operation, IsOperation, IsWellFormedSignature}
 use Rattle.lotos_base.specs.WrittenTerm.{WrittenTerm, ListedOperation}
 use Rattle.lotos_base.proofs.Members.{member_at}
 use Rattle.path_order.proofs.OneListing.{listed_by_once}
@@ -12,7 +12,8 @@ use Rattle.sort_terms.specs.ReadingOutcome.{ReadingOutcome, answered, SortedPair
 use Rattle.sort_terms.proofs.ReadsLemmas.{comes_once}
 use Rattle.syntax_trees.specs.WrittenVariable.{WrittenVariable}
 use Rattle.induct_parts.specs.HandedOn.{Cover, Certificate, Lemma, Statement, IsCertified, IsInductionFault, InductionFault, bad_line}
-use Rattle.induct_parts.specs.HandedOn.{FirstFaultsAreOne, RightOnesHaveNoFault, Theory}
+use Rattle.induct_parts.specs.HandedOn.{FirstFaultsAreOne, RightOnesHaveNoFault, Theory, Numbered}
+use Rattle.certificate_theory.specs.Patterns.{first_pattern}
 use Rattle.induct_check.specs.CertificateReading.{ItemsList, nothing_listed, item_lists, AreOperationsOf, IsWrittenCover, AreNumbered, AreLemmaVariables, IsWrittenSide, AreReadSides, LineTask, read_cover, read_tree, tree_line, read_variables, read_left, read_right, proof_line, no_task, Piece, new_cover, new_tree, new_variables, new_left, new_lemma, GivesPiece, FailsWithLeft, ReadSoFar, nothing_read, with_piece}
 use Rattle.induct_check.specs.CheckView.{IsCertifiedText}
 use Rattle.induct_check.specs.TextFaults.{task_behind, Stop, ReadText, LinesReadTo, ends, lacks_a_line, lacks_line_feed, goes_on, stops, stops_at_left, TextComesTo, IsReadAsInduction, ComesBeforeStop, IsTextFault, in_certificate, before_stop, at_stop}
@@ -37,13 +38,32 @@ module _ (signature : Signature) (well : IsWellFormedSignature signature) where
       (subst (λ (items : List ListedOperation). ItemsList signature items gs)
       (sym (all_have_one_outcome.order.one_tree 0 text one.0 other.0 one.1 other.1)) other.2)
 
+  pub same_cover : (sort text : List ℕ) (one other : Cover) → IsSortNamed signature one.sort sort
+      → AreOperationsOf signature text one.operations → IsSortNamed signature other.sort sort
+      → AreOperationsOf signature text other.operations → one ≡ other
+  same_cover sort text one other named listed also_named also_listed =
+      let sorts : one.sort ≡ other.sort = sort_once sort one.sort other.sort named also_named in
+      let operations : one.operations ≡ other.operations =
+      operations_once text one.operations other.operations listed also_listed in
+      (λ i. record { sort = sorts i; operations = operations i })
+
   cover_once : (sort text : List ℕ) (one other : Cover) → IsWrittenCover signature sort text one → IsWrittenCover signature sort text other
       → one ≡ other
   cover_once sort text one other is also =
-      let sorts : one.sort ≡ other.sort = sort_once sort one.sort other.sort is.named also.named in
-      let listed : one.operations ≡ other.operations =
-      operations_once text one.operations other.operations is.listed also.listed in
-      (λ i. record { sort = sorts i; operations = listed i })
+      same_cover sort text one other is.named is.listed also.named also.listed
+
+  -- a tree with the pattern that it begins with
+  abbrev tree_of : Numbered → Piece
+  tree_of one = new_tree one.number (first_pattern one)
+
+  operation_once : (f g : ℕ) (o p : Operation) → IsOperation signature f o → IsOperation signature g p → f ≡ g → o ≡ p
+  operation_once f g o p at there same =
+      same_Some o p (sym at ∙ (ap (slice_get signature.operations) same ∙ there))
+
+  tree_once : (f g : ℕ) (o p : Operation) → f ≡ g → o ≡ p
+      → new_tree f (first_pattern (record { number = f; operation = o }))
+      ≡ new_tree g (first_pattern (record { number = g; operation = p }))
+  tree_once f g o p same operation = λ i. tree_of (record { number = same i; operation = operation i })
 
   variable_same : (one other : Variable) → one.name ≡ other.name → one.number ≡ other.number → one.sort ≡ other.sort → one ≡ other
   variable_same one other name number sort = λ i. record { name = name i; number = number i; sort = sort i }
@@ -98,10 +118,10 @@ module _ (signature : Signature) (well : IsWellFormedSignature signature) where
   gives_once (read_cover sort items) one other is also =
       is.2 ∙ ap (λ (c : Cover). new_cover c) (cover_once sort items is.0 also.0 is.1 also.1) ∙ sym also.2
   gives_once (read_tree item) one other is also =
-      let same : is.0 ∷ [] ≡ also.0 ∷ [] = operations_once item (is.0 ∷ []) (also.0 ∷ []) is.1 also.1 in
+      let same : is.0 ∷ [] ≡ also.0 ∷ [] = operations_once item (is.0 ∷ []) (also.0 ∷ []) is.2 also.2 in
       let number : is.0 ≡ also.0 = cc same in
-      is.2 ∙ ap (λ (f : ℕ). new_tree f) number ∙ sym also.2
-  gives_once (tree_line line) one other is also = is ∙ sym also
+      is.4 ∙ tree_once is.0 also.0 is.1 also.1 number (operation_once is.0 also.0 is.1 also.1 is.3 also.3 number) ∙ sym also.4
+  gives_once (tree_line line patterns) one other is also = is ∙ sym also
   gives_once (read_variables text) one other is also =
       is.2 ∙ ap (λ (vs : List Variable). new_variables vs) (lemma_variables_once text is.0 also.0 is.1 also.1) ∙ sym also.2
   gives_once (read_left variables term) one other is also =
@@ -119,7 +139,7 @@ module _ (signature : Signature) (well : IsWellFormedSignature signature) where
   gives_or_fails : (task : LineTask) (piece : Piece) → GivesPiece signature task piece → ¬ FailsWithLeft signature task
   gives_or_fails (read_cover sort items) piece is fails = fails
   gives_or_fails (read_tree item) piece is fails = fails
-  gives_or_fails (tree_line line) piece is fails = fails
+  gives_or_fails (tree_line line patterns) piece is fails = fails
   gives_or_fails (read_variables text) piece is fails = fails
   gives_or_fails (read_left variables term) piece is fails = fails
   gives_or_fails (read_right variables left term) piece is fails =

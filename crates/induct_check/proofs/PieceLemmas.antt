@@ -1,16 +1,20 @@
 -- What lines that ask for something give, and when they give nothing.
-use Rattle.std.proofs.Common.{◌≡◌, ◌≢◌, ℕ, List, [], ◌∷◌, Option, None, Some, Bor, slice_index_or, arith, length, refl, ap, sym, subst}
+use Rattle.std.proofs.Common.{◌≡◌, ◌≢◌, ℕ, List, [], ◌∷◌, Option, None, Some, slice_get, Bor, slice_index_or, arith, length, refl, ap, sym, subst}
 use Rattle.lotos_base.specs.Equation.{Variable}
-use Rattle.lotos_base.specs.Signature.{Signature, Operation, IsOperation}
+use Rattle.lotos_base.specs.Signature.{Signature, Operation, IsOperation, IsWellFormedSignature}
 use Rattle.lotos_base.specs.WrittenTerm.{WrittenTerm}
 use Rattle.lotos_grammar.specs.HandedOn.{TextsHaveOneOutcome}
 use Rattle.sort_terms.specs.Reading.{IsSortNamed}
+use Rattle.certificate_theory.specs.Covers.{IsListedIn, HasResult}
+use Rattle.certificate_theory.specs.Patterns.{Pattern, first_pattern}
+use Rattle.certificate_theory.proofs.TestedCertificates.{among_member}
 use Rattle.induct_parts.specs.HandedOn.{Cover, Statement}
 use Rattle.induct_check.specs.CertificateReading.{ItemsList, AreOperationsOf, AreLemmaVariables, IsWrittenSide, AreReadSides, LineTask, read_cover, read_tree, read_variables, read_left, read_right, no_task, among_covers_task, in_tree_task, left_task, right_task, Piece, new_tree, new_variables, new_lemma, GivesPiece, FailsWithLeft}
 use Rattle.induct_check.specs.FormView.{form_in}
 use Rattle.induct_check.specs.declared.forms.Form.{Form}
 use Rattle.induct_check.specs.declared.forms.Form.TheVariants as line
 use Rattle.induct_check.specs.PieceView.{AreKnownVariables}
+use Rattle.induct_check.proofs.OneText.{same_cover}
 use Rattle.induct_check.proofs.ItemLemmas.{one_listed, first_listed}
 use Rattle.induct_check.proofs.StatedLemmas.{known_variables, no_variables}
 
@@ -28,9 +32,26 @@ pub no_cover_items : (signature : Signature) (sort items : List ℕ) → ((fs : 
     → GivesNothing signature (read_cover sort items)
 no_cover_items signature sort items none = ((λ p h. none h.0.operations h.1.listed), (λ h. h))
 
+-- the operations have the sort as result
+abbrev pub HaveResult : Signature → ℕ → List ℕ → Type 0
+HaveResult signature sort operations = (i f : ℕ) → slice_get operations i ≡ Some f → HasResult signature sort f
+
+pub no_cover_results : (signature : Signature) → IsWellFormedSignature signature → (sort items : List ℕ) (s : ℕ) (fs : List ℕ)
+    → IsSortNamed signature s sort → AreOperationsOf signature items fs → ¬ HaveResult signature s fs
+    → GivesNothing signature (read_cover sort items)
+no_cover_results signature well sort items s fs named listed wrong = (
+  (λ p h. wrong (subst (λ (c : Cover). HaveResult signature c.sort c.operations)
+      (same_cover signature well sort items h.0 (record { sort = s; operations = fs }) h.1.named h.1.listed named listed) h.1.results)),
+  (λ h. h),
+)
+
+pub cover_results : (signature : Signature) (s : ℕ) (fs : List ℕ) → HaveResult signature s fs → (f : ℕ) → IsListedIn fs f
+    → HasResult signature s f
+cover_results signature s fs results f among = let member = among_member fs f among in results member.0 f member.1
+
 pub no_tree_item : (signature : Signature) (item : List ℕ) → ((fs : List ℕ) → AreOperationsOf signature item fs → ⊥)
     → GivesNothing signature (read_tree item)
-no_tree_item signature item none = ((λ p h. none (h.0 ∷ []) h.1), (λ h. h))
+no_tree_item signature item none = ((λ p h. none (h.0 ∷ []) h.2), (λ h. h))
 
 one_operation : TextsHaveOneOutcome → (signature : Signature) (item : List ℕ) (fs : List ℕ) (f : ℕ) → AreOperationsOf signature item fs
     → AreOperationsOf signature item (f ∷ []) → fs ≡ f ∷ []
@@ -41,13 +62,23 @@ one_operation laws signature item fs f some one =
 pub several_operations : TextsHaveOneOutcome → (signature : Signature) (item : List ℕ) (fs : List ℕ) → AreOperationsOf signature item fs
     → length fs ≢ 1 → GivesNothing signature (read_tree item)
 several_operations laws signature item fs listed several =
-    ((λ p h. several (ap length (one_operation laws signature item fs h.0 listed h.1))), (λ h. h))
+    ((λ p h. several (ap length (one_operation laws signature item fs h.0 listed h.2))), (λ h. h))
 
-pub gives_tree : (signature : Signature) (item : List ℕ) (fs : List ℕ) (f : ℕ) → AreOperationsOf signature item fs → fs ≡ f ∷ []
-    → GivesPiece signature (read_tree item) (new_tree f) × ((operation : Operation) × IsOperation signature f operation)
-gives_tree signature item fs f listed is =
+-- the operation of a tree
+pub tree_operation : (signature : Signature) (item : List ℕ) (fs : List ℕ) (f : ℕ) → AreOperationsOf signature item fs → fs ≡ f ∷ []
+    → (operation : Operation) × IsOperation signature f operation
+tree_operation signature item fs f listed is =
     let one : AreOperationsOf signature item (f ∷ []) = subst (λ gs. AreOperationsOf signature item gs) is listed in
-    ((f, one, refl), first_listed signature one.0 f [] one.2)
+    first_listed signature one.0 f [] one.2
+
+pub gives_tree : (signature : Signature) (item : List ℕ) (fs : List ℕ) (f : ℕ) (pattern : Pattern) → AreOperationsOf signature item fs
+    → fs ≡ f ∷ []
+    → ((o : Operation) → IsOperation signature f o → pattern ≡ first_pattern (record { number = f; operation = o }))
+    → GivesPiece signature (read_tree item) (new_tree f pattern) × ((operation : Operation) × IsOperation signature f operation)
+gives_tree signature item fs f pattern listed is first =
+    let one : AreOperationsOf signature item (f ∷ []) = subst (λ gs. AreOperationsOf signature item gs) is listed in
+    let operation = tree_operation signature item fs f listed is in
+    ((f, operation.0, one, operation.1, ap (λ p. new_tree f p) (first operation.0 operation.1)), operation)
 
 -- ---- Heads of lemmas
 
@@ -103,22 +134,22 @@ none_among_covers signature line.Leaf not_cover not_tree not_lemma = nothing sig
 none_among_covers signature line.Same not_cover not_tree not_lemma = nothing signature
 none_among_covers signature line.Nothing not_cover not_tree not_lemma = nothing signature
 
-pub none_in_tree : (signature : Signature) (form : Form)
+pub none_in_tree : (signature : Signature) (covers : List Cover) (left : List Pattern) (form : Form)
     → ((t : Bor (List ℕ)) → form ≡ line.Tree t → ⊥)
     → ((t : Bor (List ℕ)) → form ≡ line.Split t → ⊥)
     → ((o : Option (Bor (List ℕ))) → form ≡ line.Lemma o → ⊥)
     → (form ≡ line.Leaf → ⊥)
-    → GivesNothing signature (in_tree_task (form_in form))
-none_in_tree signature (line.Cover s t) not_tree not_split not_lemma not_leaf = nothing signature
-none_in_tree signature (line.Tree t) not_tree not_split not_lemma not_leaf = absurd (not_tree t refl)
-none_in_tree signature (line.Split t) not_tree not_split not_lemma not_leaf = absurd (not_split t refl)
-none_in_tree signature (line.Lemma o) not_tree not_split not_lemma not_leaf = absurd (not_lemma o refl)
-none_in_tree signature (line.Left t) not_tree not_split not_lemma not_leaf = nothing signature
-none_in_tree signature (line.Right t) not_tree not_split not_lemma not_leaf = nothing signature
-none_in_tree signature (line.Use u) not_tree not_split not_lemma not_leaf = nothing signature
-none_in_tree signature line.Leaf not_tree not_split not_lemma not_leaf = absurd (not_leaf refl)
-none_in_tree signature line.Same not_tree not_split not_lemma not_leaf = nothing signature
-none_in_tree signature line.Nothing not_tree not_split not_lemma not_leaf = nothing signature
+    → GivesNothing signature (in_tree_task signature covers left (form_in form))
+none_in_tree signature covers left (line.Cover s t) not_tree not_split not_lemma not_leaf = nothing signature
+none_in_tree signature covers left (line.Tree t) not_tree not_split not_lemma not_leaf = absurd (not_tree t refl)
+none_in_tree signature covers left (line.Split t) not_tree not_split not_lemma not_leaf = absurd (not_split t refl)
+none_in_tree signature covers left (line.Lemma o) not_tree not_split not_lemma not_leaf = absurd (not_lemma o refl)
+none_in_tree signature covers left (line.Left t) not_tree not_split not_lemma not_leaf = nothing signature
+none_in_tree signature covers left (line.Right t) not_tree not_split not_lemma not_leaf = nothing signature
+none_in_tree signature covers left (line.Use u) not_tree not_split not_lemma not_leaf = nothing signature
+none_in_tree signature covers left line.Leaf not_tree not_split not_lemma not_leaf = absurd (not_leaf refl)
+none_in_tree signature covers left line.Same not_tree not_split not_lemma not_leaf = nothing signature
+none_in_tree signature covers left line.Nothing not_tree not_split not_lemma not_leaf = nothing signature
 
 pub none_behind_variables : (signature : Signature) (vs : List Variable) (form : Form)
     → ((t : Bor (List ℕ)) → form ≡ line.Left t → ⊥)

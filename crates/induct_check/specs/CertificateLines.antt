@@ -98,12 +98,9 @@ source_of_words kind number =
 
 -- a use, if all of it is there
 abbrev pub use_from : Option Source → Option Side → Option (List ℕ) → Option Direction → Option Use
-use_from None side path direction = None
-use_from (Some source) None path direction = None
-use_from (Some source) (Some side) None direction = None
-use_from (Some source) (Some side) (Some path) None = None
 use_from (Some source) (Some side) (Some path) (Some direction) =
     Some (record { source = source; side = side; path = path; direction = direction })
+use_from source side path direction = None
 
 -- What stands behind `use`: `lemma K SIDE PATH DIR` or `hyp K SIDE PATH DIR`.
 abbrev pub use_by : List (List ℕ) → Option Use

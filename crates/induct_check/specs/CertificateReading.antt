@@ -2,7 +2,9 @@
 use Rattle.std.specs.Prelude.{◌≡◌, ℕ, zero, suc, List, [], ◌∷◌, ◌++◌, Option, None, Some, map, slice_get, length, codes, decimal, if◌then◌else◌}
 use Rattle.lotos_base.specs.Equation.{Variable, Place}
 use Rattle.lotos_base.specs.Names.{AreOneName}
-use Rattle.lotos_base.specs.Signature.{Signature}
+use Rattle.lotos_base.specs.Path.{subterm}
+use Rattle.lotos_base.specs.Signature.{Signature, Operation, IsOperation}
+use Rattle.lotos_base.specs.Term.{Term, variable, node}
 use Rattle.lotos_base.specs.WrittenTerm.{WrittenTerm, ListedOperation}
 use Rattle.lotos_lexer.specs.declared.tokens.Token.{Token}
 use Rattle.lotos_lexer.specs.Tokens as lexed
@@ -15,6 +17,8 @@ use Rattle.sort_terms.specs.ReadingOutcome.{one_name, unknown_name, unknown_sort
 use Rattle.syntax_trees.specs.WrittenVariable.{WrittenVariable}
 use Rattle.induct_parts.specs.HandedOn.{Cover, TreeLine, split_pattern, leaf_here, PatternTree, Statement, ProofLine, split_variable}
 use Rattle.induct_parts.specs.HandedOn.{use_it, same_sides, Lemma, Certificate, Numbered, cover_of, in_signature_order}
+use Rattle.certificate_theory.specs.Covers.{HasResult}
+use Rattle.certificate_theory.specs.Patterns.{Pattern, first_pattern, split_patterns}
 use Rattle.induct_check.specs.CertificateLines.{LineForm, cover_form, tree_form, split_form, lemma_form, left_form, right_form, use_form, leaf_form, same_form, no_form, path_of}
 
 -- ---- Operations that items list
@@ -31,10 +35,11 @@ abbrev pub AreOperationsOf : Signature → List ℕ → List ℕ → Type 0
 AreOperationsOf signature text operations =
     (items : List ListedOperation) × IsOrderReading 0 text items × ItemsList signature items operations
 
--- The cover of the sort with this name by the operations of the items.
+-- The cover of the sort with this name by the operations of the items, which have the sort as result.
 pub record IsWrittenCover (signature : Signature) (sort text : List ℕ) (cover : Cover) : Type 0 where
   pub named : IsSortNamed signature cover.sort sort
   pub listed : AreOperationsOf signature text cover.operations
+  pub results : (i f : ℕ) → slice_get cover.operations i ≡ Some f → HasResult signature cover.sort f
 
 -- ---- Heads of lemmas
 
@@ -123,12 +128,32 @@ abbrev pub cases_behind : Signature → List Cover → NamedCase → List ℕ �
 cases_behind signature covers point name =
     cases_of_sort signature covers point name (slice_get point.sorts (number_named point.names name))
 
+-- ---- Patterns in trees
+
+-- The patterns that a split of a variable leaves, by the operations of the cover of its sort; none where there is no cover.
+abbrev pub patterns_by : Signature → Pattern → ℕ → ℕ → Option (List ℕ) → List Pattern
+patterns_by signature pattern n s None = []
+patterns_by signature pattern n s (Some operations) = split_patterns signature pattern n s operations
+
+-- none where there is no variable
+abbrev pub patterns_at : Signature → List Cover → Pattern → Option Term → List Pattern
+patterns_at signature covers pattern (Some (variable n s)) = patterns_by signature pattern n s (cover_of covers s)
+patterns_at signature covers pattern part = []
+
+-- the patterns by which a line of a tree replaces the first one that is left
+abbrev pub patterns_behind : Signature → List Cover → Pattern → TreeLine → List Pattern
+patterns_behind signature covers pattern leaf_here = []
+patterns_behind signature covers pattern (split_pattern path) =
+    patterns_at signature covers pattern (subterm path pattern.term)
+
 -- ---- What was read, and what a line asks for
 
--- The part that is being read: none but covers so far, a tree, the head of a lemma behind its first line with its variables, or
--- behind its second one with its left side too, or the proof of a lemma with the names of the cases that are left.
+-- The part that is being read: none but covers so far, a tree with the patterns that are left (none where it is finished), the
+-- head of a lemma behind its first line with its variables, or behind its second one with its left side too, or the proof of a
+-- lemma with the names of the cases that are left.
 pub data OpenPart : Type 0 where
-  among_covers in_tree : OpenPart
+  among_covers : OpenPart
+  in_tree : List Pattern → OpenPart
   behind_variables : List Variable → OpenPart
   behind_left : List Variable → WrittenTerm → OpenPart
   in_proof : List NamedCase → OpenPart
@@ -141,12 +166,13 @@ pub record ReadSoFar : Type 0 where
 abbrev pub nothing_read : ReadSoFar
 nothing_read = record { certificate = record { covers = []; trees = []; lemmas = [] }; part = among_covers }
 
--- What a line asks for by its form: a cover, a tree, a line of a tree, the variables, the left and the right side of a lemma, or a
--- line of a proof, with the cases by which the first case that is left is replaced, if it is; or the line may not stand there.
+-- What a line asks for by its form: a cover, a tree, a line of a tree with the patterns by which the first pattern that is left is
+-- replaced, the variables, the left and the right side of a lemma, or a line of a proof, with the cases by which the first case
+-- that is left is replaced, if it is; or the line may not stand there.
 pub data LineTask : Type 0 where
   read_cover : (sort items : List ℕ) → LineTask
   read_tree : (item : List ℕ) → LineTask
-  tree_line : TreeLine → LineTask
+  tree_line : TreeLine → List Pattern → LineTask
   read_variables : Option (List ℕ) → LineTask
   read_left : List Variable → (term : List ℕ) → LineTask
   read_right : List Variable → WrittenTerm → (term : List ℕ) → LineTask
@@ -156,54 +182,32 @@ pub data LineTask : Type 0 where
 abbrev pub among_covers_task : LineForm → LineTask
 among_covers_task (cover_form sort items) = read_cover sort items
 among_covers_task (tree_form item) = read_tree item
-among_covers_task (split_form word) = no_task
 among_covers_task (lemma_form variables) = read_variables variables
-among_covers_task (left_form term) = no_task
-among_covers_task (right_form term) = no_task
-among_covers_task (use_form use_) = no_task
-among_covers_task leaf_form = no_task
-among_covers_task same_form = no_task
-among_covers_task no_form = no_task
+among_covers_task form = no_task
 
-abbrev pub pattern_split : Option (List ℕ) → LineTask
-pattern_split None = no_task
-pattern_split (Some path) = tree_line (split_pattern path)
+-- a line of a tree deals with the first pattern that is left; behind a finished tree it may not stand
+abbrev pub first_line : Signature → List Cover → List Pattern → TreeLine → LineTask
+first_line signature covers [] line = no_task
+first_line signature covers (pattern ∷ patterns) line = tree_line line (patterns_behind signature covers pattern line)
 
-abbrev pub in_tree_task : LineForm → LineTask
-in_tree_task (cover_form sort items) = no_task
-in_tree_task (tree_form item) = read_tree item
-in_tree_task (split_form word) = pattern_split (path_of word)
-in_tree_task (lemma_form variables) = read_variables variables
-in_tree_task (left_form term) = no_task
-in_tree_task (right_form term) = no_task
-in_tree_task (use_form use_) = no_task
-in_tree_task leaf_form = tree_line leaf_here
-in_tree_task same_form = no_task
-in_tree_task no_form = no_task
+abbrev pub pattern_split : Signature → List Cover → List Pattern → Option (List ℕ) → LineTask
+pattern_split signature covers left None = no_task
+pattern_split signature covers left (Some path) = first_line signature covers left (split_pattern path)
+
+abbrev pub in_tree_task : Signature → List Cover → List Pattern → LineForm → LineTask
+in_tree_task signature covers left (tree_form item) = read_tree item
+in_tree_task signature covers left (split_form word) = pattern_split signature covers left (path_of word)
+in_tree_task signature covers left (lemma_form variables) = read_variables variables
+in_tree_task signature covers left leaf_form = first_line signature covers left leaf_here
+in_tree_task signature covers left form = no_task
 
 abbrev pub left_task : List Variable → LineForm → LineTask
-left_task variables (cover_form sort items) = no_task
-left_task variables (tree_form item) = no_task
-left_task variables (split_form word) = no_task
-left_task variables (lemma_form more) = no_task
 left_task variables (left_form term) = read_left variables term
-left_task variables (right_form term) = no_task
-left_task variables (use_form use_) = no_task
-left_task variables leaf_form = no_task
-left_task variables same_form = no_task
-left_task variables no_form = no_task
+left_task variables form = no_task
 
 abbrev pub right_task : List Variable → WrittenTerm → LineForm → LineTask
-right_task variables left (cover_form sort items) = no_task
-right_task variables left (tree_form item) = no_task
-right_task variables left (split_form word) = no_task
-right_task variables left (lemma_form more) = no_task
-right_task variables left (left_form term) = no_task
 right_task variables left (right_form term) = read_right variables left term
-right_task variables left (use_form use_) = no_task
-right_task variables left leaf_form = no_task
-right_task variables left same_form = no_task
-right_task variables left no_form = no_task
+right_task variables left form = no_task
 
 -- the split of a variable of the first case that is left, if one is
 abbrev pub variable_split : Signature → List Cover → List NamedCase → List ℕ → LineTask
@@ -212,20 +216,15 @@ variable_split signature covers (point ∷ points) name =
     proof_line (split_variable (number_named point.names name)) (Some (cases_behind signature covers point name))
 
 abbrev pub in_proof_task : Signature → List Cover → List NamedCase → LineForm → LineTask
-in_proof_task signature covers left (cover_form sort items) = no_task
-in_proof_task signature covers left (tree_form item) = no_task
 in_proof_task signature covers left (split_form word) = variable_split signature covers left word
 in_proof_task signature covers left (lemma_form variables) = read_variables variables
-in_proof_task signature covers left (left_form term) = no_task
-in_proof_task signature covers left (right_form term) = no_task
 in_proof_task signature covers left (use_form use_) = proof_line (use_it use_) None
-in_proof_task signature covers left leaf_form = no_task
 in_proof_task signature covers left same_form = proof_line same_sides (Some [])
-in_proof_task signature covers left no_form = no_task
+in_proof_task signature covers left form = no_task
 
 abbrev pub line_task_of : Signature → List Cover → OpenPart → LineForm → LineTask
 line_task_of signature covers among_covers form = among_covers_task form
-line_task_of signature covers in_tree form = in_tree_task form
+line_task_of signature covers (in_tree left) form = in_tree_task signature covers left form
 line_task_of signature covers (behind_variables variables) form = left_task variables form
 line_task_of signature covers (behind_left variables left) form = right_task variables left form
 line_task_of signature covers (in_proof left) form = in_proof_task signature covers left form
@@ -235,8 +234,8 @@ line_task_of signature covers (in_proof left) form = in_proof_task signature cov
 -- What a line that reads gives.
 pub data Piece : Type 0 where
   new_cover : Cover → Piece
-  new_tree : (operation : ℕ) → Piece
-  new_tree_line : TreeLine → Piece
+  new_tree : (operation : ℕ) → Pattern → Piece
+  new_tree_line : TreeLine → List Pattern → Piece
   new_variables : List Variable → Piece
   new_left : List Variable → WrittenTerm → Piece
   new_lemma : List Variable → Statement → Piece
@@ -247,8 +246,9 @@ abbrev pub GivesPiece : Signature → LineTask → Piece → Type 0
 GivesPiece signature (read_cover sort items) piece =
     (cover : Cover) × IsWrittenCover signature sort items cover × (piece ≡ new_cover cover)
 GivesPiece signature (read_tree item) piece =
-    (operation : ℕ) × AreOperationsOf signature item (operation ∷ []) × (piece ≡ new_tree operation)
-GivesPiece signature (tree_line line) piece = piece ≡ new_tree_line line
+    (f : ℕ) × (operation : Operation) × AreOperationsOf signature item (f ∷ []) × IsOperation signature f operation
+    × (piece ≡ new_tree f (first_pattern (record { number = f; operation = operation })))
+GivesPiece signature (tree_line line patterns) piece = piece ≡ new_tree_line line patterns
 GivesPiece signature (read_variables text) piece =
     (variables : List Variable) × AreLemmaVariables signature text variables × (piece ≡ new_variables variables)
 GivesPiece signature (read_left variables term) piece =
@@ -261,16 +261,10 @@ GivesPiece signature no_task piece = ⊥
 
 -- The line is a right side by itself, but with the left side it has no pair of readings with one sort, or several.
 abbrev pub FailsWithLeft : Signature → LineTask → Type 0
-FailsWithLeft signature (read_cover sort items) = ⊥
-FailsWithLeft signature (read_tree item) = ⊥
-FailsWithLeft signature (tree_line line) = ⊥
-FailsWithLeft signature (read_variables text) = ⊥
-FailsWithLeft signature (read_left variables term) = ⊥
 FailsWithLeft signature (read_right variables left term) =
     (right : WrittenTerm) × IsWrittenSide signature variables term right
     × ((statement : Statement) → ¬ AreReadSides signature variables left right statement)
-FailsWithLeft signature (proof_line line cases) = ⊥
-FailsWithLeft signature no_task = ⊥
+FailsWithLeft signature task = ⊥
 
 -- the last member, changed
 abbrev pub with_last : {A : Type 0} → (A → A) → List A → List A
@@ -285,66 +279,46 @@ abbrev pub lemma_with : ProofLine → Lemma → Lemma
 lemma_with line lemma =
     record { variables = lemma.variables; statement = lemma.statement; lines = lemma.lines ++ line ∷ [] }
 
--- the cases that are left, with these in place of the first one
-abbrev pub without_first : List NamedCase → List NamedCase
+-- the cases or patterns that are left, with these in place of the first one
+abbrev pub without_first : {X : Type 0} → List X → List X
 without_first [] = []
-without_first (point ∷ points) = points
+without_first (x ∷ xs) = xs
 
 abbrev pub left_behind : Option (List NamedCase) → List NamedCase → List NamedCase
 left_behind None left = left
 left_behind (Some cases) left = cases ++ without_first left
 
+-- the part behind a line of a tree
+abbrev pub tree_behind : List Pattern → OpenPart → OpenPart
+tree_behind patterns (in_tree left) = in_tree (patterns ++ without_first left)
+tree_behind patterns part = part
+
 -- the part behind a line of a proof
 abbrev pub proof_behind : Option (List NamedCase) → OpenPart → OpenPart
-proof_behind cases among_covers = among_covers
-proof_behind cases in_tree = in_tree
-proof_behind cases (behind_variables variables) = behind_variables variables
-proof_behind cases (behind_left variables left) = behind_left variables left
 proof_behind cases (in_proof left) = in_proof (left_behind cases left)
+proof_behind cases part = part
+
+-- what was read, when it has these parts
+abbrev pub read_as : List Cover → List PatternTree → List Lemma → OpenPart → ReadSoFar
+read_as covers trees lemmas part = record { certificate = record { covers = covers; trees = trees; lemmas = lemmas }; part = part }
 
 -- What was read, with the piece that a line gives.
 abbrev pub with_piece : ReadSoFar → Piece → ReadSoFar
-with_piece reading (new_cover cover) = record {
-  certificate = record {
-    covers = reading.certificate.covers ++ cover ∷ [];
-    trees = reading.certificate.trees;
-    lemmas = reading.certificate.lemmas;
-  };
-  part = among_covers;
-}
-with_piece reading (new_tree operation) = record {
-  certificate = record {
-    covers = reading.certificate.covers;
-    trees = reading.certificate.trees ++ record { operation = operation; lines = [] } ∷ [];
-    lemmas = reading.certificate.lemmas;
-  };
-  part = in_tree;
-}
-with_piece reading (new_tree_line line) = record {
-  certificate = record {
-    covers = reading.certificate.covers;
-    trees = with_last (tree_with line) reading.certificate.trees;
-    lemmas = reading.certificate.lemmas;
-  };
-  part = in_tree;
-}
+with_piece reading (new_cover cover) =
+    read_as (reading.certificate.covers ++ cover ∷ []) reading.certificate.trees reading.certificate.lemmas among_covers
+with_piece reading (new_tree operation pattern) =
+    read_as reading.certificate.covers (reading.certificate.trees ++ record { operation = operation; lines = [] } ∷ [])
+    reading.certificate.lemmas (in_tree (pattern ∷ []))
+with_piece reading (new_tree_line line patterns) =
+    read_as reading.certificate.covers (with_last (tree_with line) reading.certificate.trees) reading.certificate.lemmas
+    (tree_behind patterns reading.part)
 with_piece reading (new_variables variables) =
     record { certificate = reading.certificate; part = behind_variables variables }
 with_piece reading (new_left variables left) =
     record { certificate = reading.certificate; part = behind_left variables left }
-with_piece reading (new_lemma variables statement) = record {
-  certificate = record {
-    covers = reading.certificate.covers;
-    trees = reading.certificate.trees;
-    lemmas = reading.certificate.lemmas ++ stated_lemma variables statement ∷ [];
-  };
-  part = in_proof (first_names variables ∷ []);
-}
-with_piece reading (new_proof_line line cases) = record {
-  certificate = record {
-    covers = reading.certificate.covers;
-    trees = reading.certificate.trees;
-    lemmas = with_last (lemma_with line) reading.certificate.lemmas;
-  };
-  part = proof_behind cases reading.part;
-}
+with_piece reading (new_lemma variables statement) =
+    read_as reading.certificate.covers reading.certificate.trees
+    (reading.certificate.lemmas ++ stated_lemma variables statement ∷ []) (in_proof (first_names variables ∷ []))
+with_piece reading (new_proof_line line cases) =
+    read_as reading.certificate.covers reading.certificate.trees (with_last (lemma_with line) reading.certificate.lemmas)
+    (proof_behind cases reading.part)

@@ -1,3 +1,4 @@
+pub mod AlignedCases
 pub mod BookView
 pub mod CertificateLines
 pub mod CertificateReading

@@ -2,9 +2,10 @@
 use Rattle.std.specs.Prelude.{Option}
 use Rattle.std.specs.Option.{option_map}
 use Rattle.lotos_base.specs.Signature.{Signature}
-use Rattle.induct_parts.specs.CertificateView.{certificate_in}
+use Rattle.induct_parts.specs.CertificateView.{certificate_in, covers_in}
 use Rattle.induct_parts.specs.SettingView.{IsKnownCertificate}
 use Rattle.induct_check.specs.CertificateReading.{ReadSoFar}
+use Rattle.induct_check.specs.KnownView.{CoversHaveResults}
 use Rattle.induct_check.specs.PieceView.{open_part_in, IsKnownPart}
 use Rattle.induct_check.specs.TextFaults as plain
 use Rattle.induct_check.specs.TextFaults.{ReadText}
@@ -25,7 +26,8 @@ read_text read = record { certificate = certificate_in read.certificate; stop = 
 abbrev pub stopping : Reading → Option Stop → ReadText
 stopping reading stop = record { certificate = certificate_in reading.certificate; stop = option_map stop_of stop }
 
--- The certificate and the open part are known.
+-- The certificate, the results of its covers and the open part are known.
 pub record IsKnownReading (signature : Signature) (reading : Reading) : Type 0 where
   pub certificate : IsKnownCertificate signature reading.certificate
+  pub covers : CoversHaveResults signature (covers_in reading.certificate.covers.items)
   pub part : IsKnownPart signature (open_part_in reading.part)

@@ -18,20 +18,17 @@ LineGives signature reading line piece = GivesPiece signature (task_behind signa
 
 -- whether the text may end: nothing of the head of a lemma is missing
 abbrev pub may_end : OpenPart → Bool
-may_end among_covers = true
-may_end in_tree = true
 may_end (behind_variables variables) = false
 may_end (behind_left variables left) = false
-may_end (in_proof left) = true
+may_end part = true
 
--- whether a line with this first word stands among the covers or in a tree
+-- Whether a line with this first word stands among the covers or in a tree: a cover or a tree behind covers, a tree behind a
+-- finished tree, and whatever stands where a tree waits for a line.
 abbrev pub stands_early : OpenPart → List ℕ → Bool
 stands_early among_covers word = bytes_eq word (codes "cover") || bytes_eq word (codes "tree")
-stands_early in_tree word =
-    bytes_eq word (codes "tree") || (bytes_eq word (codes "split") || bytes_eq word (codes "leaf"))
-stands_early (behind_variables variables) word = false
-stands_early (behind_left variables left) word = false
-stands_early (in_proof left) word = false
+stands_early (in_tree []) word = bytes_eq word (codes "tree")
+stands_early (in_tree (pattern ∷ patterns)) word = true
+stands_early part word = false
 
 -- Where a text stops to read: the line that is told, and whether what does not read stands among the covers or in a tree.
 pub record Stop : Type 0 where

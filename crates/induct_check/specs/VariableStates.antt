@@ -57,7 +57,5 @@ read_tokens text read tokens = read_on text (Some read) tokens
 
 -- the variables that were read, if the end may come
 abbrev pub variables_if_ended : Awaited → VariablesRead → Option (List WrittenVariable)
-variables_if_ended a_name read = None
-variables_if_ended comma_or_colon read = None
-variables_if_ended a_sort read = None
 variables_if_ended comma_or_end read = Some read.variables
+variables_if_ended awaited read = None

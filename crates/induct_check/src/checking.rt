@@ -85,6 +85,7 @@ pub fn check_lemmas<D: Deciding>(
     let known = Known {
         alloc,
         signature,
+        rules,
         reader: &reader,
         operations: &operations,
     };

@@ -6,6 +6,7 @@ ghost use Rattle.induct_check.specs.CertificateLines.{
 };
 ghost use Rattle.induct_check.specs.CertificateReading.{
   among_covers_task,
+  first_line as first_line_task,
   in_proof_task,
   in_tree_task,
   left_task,
@@ -20,7 +21,11 @@ ghost use Rattle.induct_check.specs.CertificateReading.{
   variable_split,
 };
 ghost use Rattle.induct_check.specs.FormView.{IsShort, form_in};
-ghost use Rattle.induct_check.specs.KnownView.{HasKnownSignature, known_signature};
+ghost use Rattle.induct_check.specs.KnownView.{
+  CoversHaveResults,
+  HasKnownSignature,
+  known_signature,
+};
 ghost use Rattle.induct_check.specs.NameView.{named_cases_in};
 ghost use Rattle.induct_check.specs.PieceView.{
   AreKnownVariables,
@@ -28,7 +33,9 @@ ghost use Rattle.induct_check.specs.PieceView.{
   IsUnderstood,
   open_part_in,
 };
-ghost use Rattle.induct_parts.specs.CertificateView.{covers_in};
+ghost use Rattle.induct_parts.specs.CaseView.{IsKnownPattern, pattern_in, patterns_in};
+ghost use Rattle.induct_parts.specs.CertificateView.{covers_in, tree_line_of};
+ghost use Rattle.lotos_base.proofs.Each.{Each};
 ghost use Rattle.lotos_base.specs.WrittenView.{written_term_of};
 ghost use Rattle.sort_terms.specs.EquationView.{variable_of};
 ghost use Rattle.std.specs.Option.{option_map};
@@ -49,9 +56,12 @@ use crate::known::Known;
 use crate::names::{NamedCase, cases_behind, number_named};
 use crate::numbers::path_of;
 use crate::operations::operations_of;
+use crate::patterns::{first_of_tree, patterns_behind};
 use crate::sides::{both_sides, side};
 use crate::variables::lemma_variables;
 use induct_parts::certificates::{Cover, ProofLine, TreeLine};
+use induct_parts::covers::have_result;
+use induct_parts::patterns::Pattern;
 use induct_parts::statements::Statement;
 use lotos_base::{Name, NoMemory, Written};
 use lotos_grammar::texts_have_one_outcome;
@@ -63,8 +73,8 @@ use std::alloc::Global;
 pub enum Part {
     /// None but covers so far.
     Covers,
-    /// A tree.
-    Tree,
+    /// A tree, with the patterns that are left, the first one last.
+    Tree(Vec<Pattern>),
     /// A lemma behind its first line, with its variables.
     Variables(Vec<Variable>),
     /// A lemma behind its second line, with its variables and its left side.
@@ -78,10 +88,10 @@ pub enum Part {
 pub enum Piece {
     /// A cover.
     Cover(Cover),
-    /// The tree of an operation, without lines.
-    Tree(u32),
-    /// A line of a tree.
-    TreeLine(TreeLine),
+    /// The tree of an operation, without lines, and the pattern that it begins with.
+    Tree(u32, Pattern),
+    /// A line of a tree, with the patterns in place of the first one that is left.
+    TreeLine(TreeLine, Vec<Pattern>),
     /// The variables of a lemma.
     Variables(Vec<Variable>),
     /// The variables of a lemma and its left side.
@@ -103,14 +113,13 @@ pub enum LineOutcome {
     WithLeft,
 }
 
+/// What becomes of a line, where there is memory to read it.
+pub type Outcome = Result<LineOutcome, NoMemory>;
+
 /// What becomes of the line where this part is being read.
-pub fn understood(
-    known: &Known,
-    covers: &[Cover],
-    part: &Part,
-    line: &[u8],
-) -> Result<LineOutcome, NoMemory>
+pub fn understood(known: &Known, covers: &[Cover], part: &Part, line: &[u8]) -> Outcome
     requires known { HasKnownSignature known.now }
+    requires covers { CoversHaveResults (known_signature known.now) (covers_in covers.now) }
     requires part { IsKnownPart (known_signature known.now) (open_part_in part.now) }
     requires short { length line.now + 1 < 2 ^ 32 }
     ensures { IfOk result (IsUnderstood (known_signature known.now)
@@ -120,7 +129,7 @@ pub fn understood(
     let form = form_of(known.alloc, line)?;
     match part {
         Part::Covers => among_covers(known, form),
-        Part::Tree => in_tree(known, form),
+        Part::Tree(left) => in_tree(known, covers, left.as_slice(), form),
         Part::Variables(variables) => behind_variables(known, variables.as_slice(), form),
         Part::Left(variables, left) => behind_left(known, variables.as_slice(), left, form),
         Part::Proof(left) => in_proof(known, covers, left.as_slice(), form),
@@ -128,7 +137,7 @@ pub fn understood(
 }
 
 // Among the covers.
-fn among_covers(known: &Known, form: Form<'_>) -> Result<LineOutcome, NoMemory>
+fn among_covers(known: &Known, form: Form<'_>) -> Outcome
     requires known { HasKnownSignature known.now }
     requires short { IsShort (form_in form) }
     ensures { IfOk result (IsUnderstood (known_signature known.now)
@@ -143,27 +152,26 @@ fn among_covers(known: &Known, form: Form<'_>) -> Result<LineOutcome, NoMemory>
 }
 
 // In a tree.
-fn in_tree(known: &Known, form: Form<'_>) -> Result<LineOutcome, NoMemory>
+fn in_tree(known: &Known, covers: &[Cover], left: &[Pattern], form: Form<'_>) -> Outcome
     requires known { HasKnownSignature known.now }
+    requires covers { CoversHaveResults (known_signature known.now) (covers_in covers.now) }
+    requires patterns { Each IsKnownPattern (patterns_in (reverse left.now)) }
     requires short { IsShort (form_in form) }
     ensures { IfOk result (IsUnderstood (known_signature known.now)
-        (in_tree_task (form_in form.entry))) }
+        (in_tree_task (known_signature known.now) (covers_in covers.now)
+        (patterns_in (reverse left.now)) (form_in form.entry))) }
 {
     match form {
         Form::Tree(item) => tree_piece(known, item),
-        Form::Split(word) => pattern_split(known, word),
+        Form::Split(word) => pattern_split(known, covers, left, word),
         Form::Lemma(text) => variables_piece(known, text),
-        Form::Leaf => Ok(LineOutcome::Piece(Piece::TreeLine(TreeLine::Leaf))),
+        Form::Leaf => first_line(known, covers, left, TreeLine::Leaf),
         _ => Ok(LineOutcome::Nothing),
     }
 }
 
 // Behind the first line of a lemma.
-fn behind_variables(
-    known: &Known,
-    variables: &[Variable],
-    form: Form<'_>,
-) -> Result<LineOutcome, NoMemory>
+fn behind_variables(known: &Known, variables: &[Variable], form: Form<'_>) -> Outcome
     requires known { HasKnownSignature known.now }
     requires variables { AreKnownVariables (known_signature known.now)
         (map variable_of variables.now) }
@@ -178,12 +186,7 @@ fn behind_variables(
 }
 
 // Behind the second line of a lemma.
-fn behind_left(
-    known: &Known,
-    variables: &[Variable],
-    left: &Written,
-    form: Form<'_>,
-) -> Result<LineOutcome, NoMemory>
+fn behind_left(known: &Known, variables: &[Variable], left: &Written, form: Form<'_>) -> Outcome
     requires known { HasKnownSignature known.now }
     requires variables { AreKnownVariables (known_signature known.now)
         (map variable_of variables.now) }
@@ -199,12 +202,7 @@ fn behind_left(
 }
 
 // In a proof.
-fn in_proof(
-    known: &Known,
-    covers: &[Cover],
-    left: &[NamedCase],
-    form: Form<'_>,
-) -> Result<LineOutcome, NoMemory>
+fn in_proof(known: &Known, covers: &[Cover], left: &[NamedCase], form: Form<'_>) -> Outcome
     requires known { HasKnownSignature known.now }
     requires short { IsShort (form_in form) }
     ensures { IfOk result (IsUnderstood (known_signature known.now)
@@ -224,7 +222,7 @@ fn in_proof(
 }
 
 // A cover.
-fn cover_piece(known: &Known, sort: &[u8], items: &[u8]) -> Result<LineOutcome, NoMemory>
+fn cover_piece(known: &Known, sort: &[u8], items: &[u8]) -> Outcome
     requires { HasKnownSignature known.now }
     ensures { IfOk result (IsUnderstood (known_signature known.now)
         (read_cover sort.now items.now)) }
@@ -236,6 +234,9 @@ fn cover_piece(known: &Known, sort: &[u8], items: &[u8]) -> Result<LineOutcome, 
     let Some(operations) = operations_of(known, items)? else {
         return Ok(LineOutcome::Nothing);
     };
+    if !have_result(known.signature, operations.as_slice(), number) {
+        return Ok(LineOutcome::Nothing);
+    }
     Ok(LineOutcome::Piece(Piece::Cover(Cover {
         sort: number,
         operations,
@@ -243,7 +244,7 @@ fn cover_piece(known: &Known, sort: &[u8], items: &[u8]) -> Result<LineOutcome, 
 }
 
 // A tree.
-fn tree_piece(known: &Known, item: &[u8]) -> Result<LineOutcome, NoMemory>
+fn tree_piece(known: &Known, item: &[u8]) -> Outcome
     requires { HasKnownSignature known.now }
     ensures { IfOk result (IsUnderstood (known_signature known.now) (read_tree item.now)) }
 {
@@ -254,22 +255,41 @@ fn tree_piece(known: &Known, item: &[u8]) -> Result<LineOutcome, NoMemory>
     if operations.len() != 1 {
         return Ok(LineOutcome::Nothing);
     }
-    Ok(LineOutcome::Piece(Piece::Tree(operations[0])))
+    let pattern = first_of_tree(known, operations[0])?;
+    Ok(LineOutcome::Piece(Piece::Tree(operations[0], pattern)))
 }
 
 // A split in a tree.
-fn pattern_split(known: &Known, word: &[u8]) -> Result<LineOutcome, NoMemory>
+fn pattern_split(known: &Known, covers: &[Cover], left: &[Pattern], word: &[u8]) -> Outcome
+    requires covers { CoversHaveResults (known_signature known.now) (covers_in covers.now) }
+    requires patterns { Each IsKnownPattern (patterns_in (reverse left.now)) }
     ensures { IfOk result (IsUnderstood (known_signature known.now)
-        (pattern_split_task (plain_path_of word.now))) }
+        (pattern_split_task (known_signature known.now) (covers_in covers.now)
+        (patterns_in (reverse left.now)) (plain_path_of word.now))) }
 {
     match path_of(known.alloc, word)? {
         None => Ok(LineOutcome::Nothing),
-        Some(path) => Ok(LineOutcome::Piece(Piece::TreeLine(TreeLine::Split(path)))),
+        Some(path) => first_line(known, covers, left, TreeLine::Split(path)),
     }
 }
 
+// A line of a tree, which deals with the first pattern that is left.
+fn first_line(known: &Known, covers: &[Cover], left: &[Pattern], line: TreeLine) -> Outcome
+    requires covers { CoversHaveResults (known_signature known.now) (covers_in covers.now) }
+    requires patterns { Each IsKnownPattern (patterns_in (reverse left.now)) }
+    ensures { IfOk result (IsUnderstood (known_signature known.now)
+        (first_line_task (known_signature known.now) (covers_in covers.now)
+        (patterns_in (reverse left.now)) (tree_line_of line))) }
+{
+    let [.., pattern] = left else {
+        return Ok(LineOutcome::Nothing);
+    };
+    let patterns = patterns_behind(known, covers, pattern, &line)?;
+    Ok(LineOutcome::Piece(Piece::TreeLine(line, patterns)))
+}
+
 // The variables of a lemma.
-fn variables_piece(known: &Known, text: Option<&[u8]>) -> Result<LineOutcome, NoMemory>
+fn variables_piece(known: &Known, text: Option<&[u8]>) -> Outcome
     requires known { HasKnownSignature known.now }
     requires short { MatchOption text (Unit {0}) (λ t. length t.now + 1 < 2 ^ 32) }
     ensures { IfOk result (IsUnderstood (known_signature known.now)
@@ -282,7 +302,7 @@ fn variables_piece(known: &Known, text: Option<&[u8]>) -> Result<LineOutcome, No
 }
 
 // The left side of a lemma.
-fn left_piece(known: &Known, variables: &[Variable], term: &[u8]) -> Result<LineOutcome, NoMemory>
+fn left_piece(known: &Known, variables: &[Variable], term: &[u8]) -> Outcome
     requires known { HasKnownSignature known.now }
     requires variables { AreKnownVariables (known_signature known.now)
         (map variable_of variables.now) }
@@ -298,12 +318,7 @@ fn left_piece(known: &Known, variables: &[Variable], term: &[u8]) -> Result<Line
 }
 
 // The right side of a lemma.
-fn right_piece(
-    known: &Known,
-    variables: &[Variable],
-    left: &Written,
-    term: &[u8],
-) -> Result<LineOutcome, NoMemory>
+fn right_piece(known: &Known, variables: &[Variable], left: &Written, term: &[u8]) -> Outcome
     requires known { HasKnownSignature known.now }
     requires variables { AreKnownVariables (known_signature known.now)
         (map variable_of variables.now) }
@@ -333,12 +348,7 @@ fn variable_copies(alloc: Global, variables: &[Variable]) -> Result<Vec<Variable
 }
 
 // A split in a proof.
-fn split_piece(
-    known: &Known,
-    covers: &[Cover],
-    left: &[NamedCase],
-    word: &[u8],
-) -> Result<LineOutcome, NoMemory>
+fn split_piece(known: &Known, covers: &[Cover], left: &[NamedCase], word: &[u8]) -> Outcome
     ensures { IfOk result (IsUnderstood (known_signature known.now)
         (variable_split (known_signature known.now) (covers_in covers.now)
         (named_cases_in (reverse left.now)) word.now)) }

@@ -4,9 +4,11 @@ ghost use Rattle.induct_check.specs.CertificateReading.{
   lemma_with,
   new_lemma,
   new_proof_line,
+  new_tree,
   nothing_read,
   proof_behind,
   stated_lemma,
+  tree_behind,
   tree_with,
   with_last,
   with_piece,
@@ -22,6 +24,7 @@ ghost use Rattle.induct_check.specs.TextFaults.{
   stands_early as stands_early_in,
   stopped_at as plain_stopped_at,
 };
+ghost use Rattle.induct_parts.specs.CaseView.{IsKnownPattern, pattern_in, patterns_in};
 ghost use Rattle.induct_parts.specs.CertificateView.{
   lemmas_in,
   proof_line_of,
@@ -55,6 +58,7 @@ use crate::names::{NamedCase, first_names};
 use crate::parts::{cut, part_at, parts_at};
 use crate::pieces::{LineOutcome, Part, Piece, understood};
 use induct_parts::certificates::{Certificate, PatternTree, ProofLine, StatedLemma, TreeLine};
+use induct_parts::patterns::Pattern;
 use induct_parts::piles::pile;
 use induct_parts::statements::Statement;
 use lotos_base::NoMemory;
@@ -189,20 +193,18 @@ fn may_end(part: &Part) -> bool
 {
     match part {
         Part::Variables(_) | Part::Left(_, _) => false,
-        Part::Covers | Part::Tree | Part::Proof(_) => true,
+        Part::Covers | Part::Tree(_) | Part::Proof(_) => true,
     }
 }
 
-// Whether a line with this first word stands among the covers or in a tree.
+// Whether a line with this first word stands among the covers or in a tree: behind a finished tree
+// only that of another one does.
 fn stands_early(part: &Part, word: &[u8]) -> bool
     ensures { result ≡ stands_early_in (open_part_in part.now) word.now }
 {
     match part {
         Part::Covers => word == b"cover".as_slice() || word == b"tree".as_slice(),
-        Part::Tree => {
-            word == b"tree".as_slice()
-                || (word == b"split".as_slice() || word == b"leaf".as_slice())
-        }
+        Part::Tree(left) => !left.is_empty() || word == b"tree".as_slice(),
         _ => false,
     }
 }
@@ -220,17 +222,10 @@ fn add(known: &Known, reading: &mut Reading, piece: Piece) -> Result<(), NoMemor
             reading.certificate.covers.push(cover)?;
             reading.part = Part::Covers;
         }
-        Piece::Tree(operation) => {
-            let lines = Vec::new(known.alloc);
-            reading
-                .certificate
-                .trees
-                .push(PatternTree { operation, lines })?;
-            reading.part = Part::Tree;
-        }
-        Piece::TreeLine(line) => {
+        Piece::Tree(operation, pattern) => add_tree(reading, operation, pattern)?,
+        Piece::TreeLine(line, patterns) => {
             add_tree_line(&mut reading.certificate.trees, line)?;
-            reading.part = Part::Tree;
+            replace_pattern(&mut reading.part, patterns)?;
         }
         Piece::Variables(variables) => reading.part = Part::Variables(variables),
         Piece::Left(variables, left) => reading.part = Part::Left(variables, left),
@@ -238,6 +233,40 @@ fn add(known: &Known, reading: &mut Reading, piece: Piece) -> Result<(), NoMemor
         Piece::ProofLine(line, cases) => add_proof_line(reading, line, cases)?,
     }
     Ok(())
+}
+
+// Adds a tree, which begins with the pattern.
+fn add_tree(reading: &mut Reading, operation: u32, pattern: Pattern) -> Result<(), NoMemory>
+    ensures added { OnOk result (reading_in reading.new ≡ with_piece (reading_in reading.old)
+        (new_tree operation (pattern_in pattern))) }
+    ensures known { OnOk result ((signature : Signature) → IsKnownReading signature reading.old
+        → (o : Operation) → IsOperation signature operation o → IsKnownPattern (pattern_in pattern)
+        → IsKnownReading signature reading.new) }
+{
+    let alloc = *reading.certificate.trees.allocator();
+    let mut left = Vec::new(alloc);
+    left.push(pattern)?;
+    let lines = Vec::new(alloc);
+    let tree = PatternTree { operation, lines };
+    reading.certificate.trees.push(tree)?;
+    reading.part = Part::Tree(left);
+    Ok(())
+}
+
+// In a tree, replaces the first pattern that is left by these.
+fn replace_pattern(part: &mut Part, patterns: Vec<Pattern>) -> Result<(), NoMemory>
+    ensures replaced { OnOk result (open_part_in part.new
+        ≡ tree_behind (patterns_in patterns.items) (open_part_in part.old)) }
+    ensures known { OnOk result
+        ((signature : Signature) → IsKnownPart signature (open_part_in part.old)
+        → Each IsKnownPattern (patterns_in patterns.items)
+        → IsKnownPart signature (open_part_in part.new)) }
+{
+    let Part::Tree(left) = part else {
+        return Ok(());
+    };
+    left.pop();
+    Ok(pile(left, patterns)?)
 }
 
 // Adds a line to the last tree.

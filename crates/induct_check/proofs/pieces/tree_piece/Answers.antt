@@ -1,7 +1,8 @@
 use Rattle.std.proofs.Common.{sym, ◌∙◌}
 use Rattle.induct_parts.proofs.Outcomes.{match_none_at, match_some_at}
+use Rattle.induct_parts.specs.CaseView.{pattern_in}
 use Rattle.induct_check.specs.KnownView.{known_signature}
-use Rattle.induct_check.proofs.PieceLemmas.{no_tree_item, several_operations, gives_tree, one_item}
+use Rattle.induct_check.proofs.PieceLemmas.{no_tree_item, several_operations, tree_operation, gives_tree, one_item}
 use Rattle.induct_check.proofs.pieces.tree_piece.Goals as goal
 
 pub returns-in_default : goal.returns-in_default
@@ -15,9 +16,18 @@ returns-then-len-ne1 c =
     (match_some_at _ _ c.in_ok-operations.field-0 c.in-Some.operations c.in-Some.is c.in_ok-operations.ensures)
     (λ one. c.if-len-ne1.true (c.len.ensures ∙ c.in-Some.operations.ok.0 ∙ one))
 
-pub returns : goal.returns
-returns c =
-    gives_tree (known_signature c.args.known.now) c.args.item.now c.in-Some.operations.items c.index.result.now
+pub first_of_tree-requires : goal.first_of_tree-requires
+first_of_tree-requires c =
+    tree_operation (known_signature c.args.known.now) c.args.item.now c.in-Some.operations.items c.index.result.now
     (match_some_at _ _ c.in_ok-operations.field-0 c.in-Some.operations c.in-Some.is c.in_ok-operations.ensures)
     (one_item c.in-Some.operations.items c.index.result.now
     (sym (c.len.ensures ∙ c.in-Some.operations.ok.0) ∙ c.if-len-ne1.false) c.index.ensures)
+
+pub returns : goal.returns
+returns c =
+    let given = gives_tree (known_signature c.args.known.now) c.args.item.now c.in-Some.operations.items c.index.result.now
+    (pattern_in c.in_ok-pattern.pattern)
+    (match_some_at _ _ c.in_ok-operations.field-0 c.in-Some.operations c.in-Some.is c.in_ok-operations.ensures)
+    (one_item c.in-Some.operations.items c.index.result.now
+    (sym (c.len.ensures ∙ c.in-Some.operations.ok.0) ∙ c.if-len-ne1.false) c.index.ensures) c.in_ok-pattern.ensures.first in
+    (given.0, (given.1, c.in_ok-pattern.ensures.known))

@@ -17,5 +17,6 @@ returns-clause-known c = λ known stated over. record {
         (c.in_ok-sorts.ensures ∙ ap (λ vs. map (λ (v : Variable). v.sort) (map variable_of vs)) c.as_slice-2.ensures.value) stated over)
         known.certificate.lemmas;
   };
+  covers = known.covers;
   part = tt;
 }

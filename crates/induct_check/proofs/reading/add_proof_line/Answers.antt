@@ -7,6 +7,7 @@ returns-in-None-clause-known c = λ signature known. record {
     trees = known.certificate.trees;
     lemmas = c.in_ok-add_to_lemma.ensures.known signature known.certificate.lemmas;
   };
+  covers = known.covers;
   part = known.part;
 }
 
@@ -18,6 +19,7 @@ returns-in-Some-clause-known c =
         trees = known.certificate.trees;
         lemmas = c.in_ok-add_to_lemma.ensures.known signature known.certificate.lemmas;
       };
+      covers = known.covers;
       part = part signature known.part;
     })
     c.replace_first.ensures.known
