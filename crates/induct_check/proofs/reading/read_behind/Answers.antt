@@ -3,7 +3,9 @@ use Rattle.std.proofs.lemmas.List.{length-map}
 use Rattle.lotos_base.proofs.Each.{each_member}
 use Rattle.induct_check.specs.CertificateLines.{line_form_of}
 use Rattle.induct_check.specs.CertificateReading.{nothing_read}
-use Rattle.induct_check.specs.KnownView.{known_signature}
+use Rattle.induct_check.specs.KnownView.{CoversHaveResults, known_signature}
+use Rattle.induct_parts.specs.CertificateView.{covers_in}
+use Rattle.induct_parts.specs.declared.certificates.Cover.{Cover}
 use Rattle.induct_check.specs.PieceView.{open_part_in, piece_in}
 use Rattle.induct_check.specs.ReadingView.{reading_in, stopping}
 use Rattle.induct_check.specs.TextFaults.{LinesReadTo, stopped_at}
@@ -16,6 +18,11 @@ pub understood-requires-clause-short : goal.understood-requires-clause-short
 understood-requires-clause-short c =
     each_member (λ (part : List ℕ). length part + 1 < 2 ^ 32) (map (λ part. part.now) c.args.parts.now) c.loop-number.number
     c.part_at-line.result.now c.requires.short c.part_at-line.ensures
+
+pub understood-requires-clause-covers : goal.understood-requires-clause-covers
+understood-requires-clause-covers c =
+    subst (λ (cs : List Cover). CoversHaveResults (known_signature c.args.known.now) (covers_in cs)) (sym c.as_slice-covers.ensures.value)
+    c.loop-number.invariant.known.covers
 
 pub returns-in-Nothing-clause-read : goal.returns-in-Nothing-clause-read
 returns-in-Nothing-clause-read c =
