@@ -22,7 +22,6 @@ use behaviour_tree::Derivation;
 use lotos_base::NoMemory;
 use menu_builder::{Entry, Menu};
 use sort_terms::{Deciding, Sorted};
-use step_taker::depths::checked_depth;
 
 /// The entry with this number from 1, for which so many values are given.
 #[tactic(auto, using(crate::proofs::EntryLemmas::miscounted, crate::proofs::EntryLemmas::well_counted))]
@@ -80,8 +79,6 @@ pub fn derivation_for<D: Deciding>(
     if let Some(variable) = other_sort(&entry.vars, values) {
         return Err(StepRefusal::ValueSort { variable });
     }
-    // The derivation is a copy of the shape, made by recursion.
-    checked_depth(&entry.shape)?;
     Ok(entry.derivation(values, data)?)
 }
 
