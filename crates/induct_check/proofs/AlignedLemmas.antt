@@ -33,12 +33,13 @@ one_named : (theory : Theory) (proving : Proving) (named : NamedCase) (point : C
     → IsNamedFor named point → IsNamedFor (named_behind named name one) (case_with theory proving point n s one)
 one_named theory proving named point name n s one is = record {
   sorts = ap (λ (ss : List ℕ). ss ++ one.operation.arguments) is.sorts;
-  names = join_length named.names (argument_names name 1 one.operation.arguments) ∙ (omega (
-    arith,
-    is.names,
-    argument_count name 1 one.operation.arguments,
-    join_length named.sorts one.operation.arguments,
-  ));
+  names = join_length named.names (argument_names name 1 one.operation.arguments)
+      ∙ (omega (
+        arith,
+        is.names,
+        argument_count name 1 one.operation.arguments,
+        join_length named.sorts one.operation.arguments,
+      ));
 }
 
 all_named : (theory : Theory) (proving : Proving) (named : NamedCase) (point : Case) (name : List ℕ) (n s : ℕ) → IsNamedFor named point
@@ -133,8 +134,9 @@ module _ (theory : Theory) (covers : List Cover) (proving : Proving) where
   proof_named (split_form w) (named ∷ left) line cases point points parts gives (one_left is rest) comes =
       let lines : line ≡ split_variable (number_named named.names w) = cc gives in
       let same : cases ≡ Some (cases_behind theory.data_.signature covers named w) = cc gives in
-      subst (λ (cs : Option (List NamedCase)). AreNamedFor (left_behind cs (named ∷ left)) (parts ++ points)) (sym same) (line_named named
-      left point points parts w is rest (subst (λ (l : ProofLine). CaseComesTo theory covers proving point l parts) lines comes))
+      subst (λ (cs : Option (List NamedCase)). AreNamedFor (left_behind cs (named ∷ left)) (parts ++ points)) (sym same)
+      (line_named named left point points parts w is rest
+      (subst (λ (l : ProofLine). CaseComesTo theory covers proving point l parts) lines comes))
   proof_named (split_form w) [] line cases point points parts gives are comes = elim are [ ]
   proof_named (lemma_form v) left line cases point points parts gives are comes = absurd (cc gives.2)
   proof_named (left_form t) left line cases point points parts gives are comes = absurd gives
@@ -219,8 +221,9 @@ module _ (theory : Theory) (reading : ReadSoFar) where
   tree_begun : (f : ℕ) (pattern : Pattern) → ((o : Operation) → IsOperation theory.data_.signature f o
       → pattern ≡ first_pattern (record { number = f; operation = o }))
       → PartIsAligned theory (with_piece reading (new_tree f pattern)) (in_tree (pattern ∷ []))
-  tree_begun f pattern first = λ earlier tree operation patterns is at reach. tree_left f pattern tree operation patterns (last_is
-      reading.certificate.trees earlier (record { operation = f; lines = [] }) tree is) first at reach
+  tree_begun f pattern first = λ earlier tree operation patterns is at reach.
+      tree_left f pattern tree operation patterns
+      (last_is reading.certificate.trees earlier (record { operation = f; lines = [] }) tree is) first at reach
 
   -- the line that the form asks for, behind the patterns that are left
   first_line_left : (x : Pattern) (xs parts patterns : List Pattern) (line asked : TreeLine)
@@ -229,8 +232,9 @@ module _ (theory : Theory) (reading : ReadSoFar) where
   first_line_left x xs parts patterns line asked gives comes =
       let lines : line ≡ asked = cc gives in
       let left : patterns ≡ patterns_behind theory.data_.signature reading.certificate.covers x asked = cc gives in
-      ap (λ (ps : List Pattern). ps ++ xs) (left ∙ (ap (patterns_behind theory.data_.signature reading.certificate.covers x) (sym lines) ∙
-      sym (line_leaves theory.data_.signature theory.rules reading.certificate.covers x line parts comes)))
+      ap (λ (ps : List Pattern). ps ++ xs)
+      (left ∙ (ap (patterns_behind theory.data_.signature reading.certificate.covers x) (sym lines)
+      ∙ sym (line_leaves theory.data_.signature theory.rules reading.certificate.covers x line parts comes)))
 
   line_left : (left : List Pattern) (x : Pattern) (xs parts patterns : List Pattern) (line asked : TreeLine) → left ≡ x ∷ xs
       → GivesPiece theory.data_.signature (first_line theory.data_.signature reading.certificate.covers left asked)
@@ -241,9 +245,10 @@ module _ (theory : Theory) (reading : ReadSoFar) where
   line_left (p ∷ ps) x xs parts patterns line asked is gives comes =
       let first : p ≡ x = cc is in
       let rest : ps ≡ xs = cc is in
-      ap (λ (qs : List Pattern). patterns ++ qs) rest ∙ first_line_left x xs parts patterns line asked (subst (λ (q : Pattern).
-      new_tree_line line patterns ≡ new_tree_line asked (patterns_behind theory.data_.signature reading.certificate.covers q asked)) first
-      gives) comes
+      ap (λ (qs : List Pattern). patterns ++ qs) rest
+      ∙ first_line_left x xs parts patterns line asked
+      (subst (λ (q : Pattern). new_tree_line line patterns
+      ≡ new_tree_line asked (patterns_behind theory.data_.signature reading.certificate.covers q asked)) first gives) comes
 
   split_left : (left : List Pattern) (x : Pattern) (xs parts patterns : List Pattern) (line : TreeLine) (path : Option (List ℕ))
       → left ≡ x ∷ xs
@@ -285,8 +290,9 @@ module _ (theory : Theory) (reading : ReadSoFar) where
       × LinesReach ComesTo (first_pattern (record { number = t.operation; operation = operation }) ∷ []) t.lines behind) (sym old.2)
       (at, reach) in
       let last = last_reach ComesTo (start ∷ []) old.0.lines line behind before.1 in
-      form_left form left last.x last.xs last.parts patterns line (h earlier old.0 operation (last.x ∷ last.xs) old.1 before.0 last.reached)
-      gives last.comes ∙ sym last.left
+      form_left form left last.x last.xs last.parts patterns line
+      (h earlier old.0 operation (last.x ∷ last.xs) old.1 before.0 last.reached) gives last.comes
+      ∙ sym last.left
   tree_goes_on line patterns form (behind_variables variables) h gives = tt
   tree_goes_on line patterns form (behind_left variables left) h gives = tt
   tree_goes_on line patterns form (in_proof left) h gives = λ earlier lemma points is reach. h earlier lemma points is reach
@@ -309,8 +315,9 @@ begun : (theory : Theory) (covers : List Cover) (proving : Proving) (variables :
     → LinesReach (CaseComesTo theory covers proving) (first_case theory (stated_lemma variables statement) ∷ []) [] points
     → AreNamedFor (first_names variables ∷ []) points
 begun theory covers proving variables statement points reach =
-    subst (λ (ps : List Case). AreNamedFor (first_names variables ∷ []) ps) (sym (none_more (CaseComesTo theory covers proving) (first_case
-    theory (stated_lemma variables statement) ∷ []) points reach)) (one_left (record {
+    subst (λ (ps : List Case). AreNamedFor (first_names variables ∷ []) ps)
+    (sym (none_more (CaseComesTo theory covers proving) (first_case theory (stated_lemma variables statement) ∷ []) points reach))
+    (one_left (record {
       sorts = refl;
       names = length-map variables (λ (v : Variable). v.name) ∙ sym (length-map variables (λ (v : Variable). v.sort));
     }) none_left)
@@ -336,10 +343,12 @@ proof_goes_on theory reading line cases form (in_proof left) h gives = λ earlie
     let covers = reading.certificate.covers in
     let old = last_changed_is (lemma_with line) reading.certificate.lemmas earlier lemma is in
     let proving = proving_of earlier old.0 in
-    let last = last_reach (CaseComesTo theory covers proving) (first_case theory old.0 ∷ []) old.0.lines line points (subst (λ (l : Lemma).
-    LinesReach (CaseComesTo theory covers (proving_of earlier l)) (first_case theory l ∷ []) l.lines points) (sym old.2) reach) in
-    subst (λ (ps : List Case). AreNamedFor (left_behind cases left) ps) (sym last.left) (proof_named theory covers proving form left line
-    cases last.x last.xs last.parts gives (h earlier old.0 (last.x ∷ last.xs) old.1 last.reached) last.comes)
+    let last = last_reach (CaseComesTo theory covers proving) (first_case theory old.0 ∷ []) old.0.lines line points
+    (subst (λ (l : Lemma). LinesReach (CaseComesTo theory covers (proving_of earlier l)) (first_case theory l ∷ []) l.lines points)
+    (sym old.2) reach) in
+    subst (λ (ps : List Case). AreNamedFor (left_behind cases left) ps) (sym last.left)
+    (proof_named theory covers proving form left line cases last.x last.xs last.parts gives
+    (h earlier old.0 (last.x ∷ last.xs) old.1 last.reached) last.comes)
 
 goes_on_aligned : (theory : Theory) (reading : ReadSoFar) (line : List ℕ) (piece : Piece) → PartIsAligned theory reading reading.part
     → LineGives theory.data_.signature reading line piece

@@ -29,4 +29,5 @@ one_case signature point name numbers k made more whole within added so_far =
 pub operation_here : (signature : CodeSignature) (ops : List Op) (k : ℕ) (op : Op) (o : Operation) → ops ≡ signature.ops.items
     → op ≡ get_or ops k op → IsOperation (signature_of signature) k o → operation_of op ≡ o
 operation_here signature ops k op o same is at =
-    same_Some (operation_of op) o (sym (operation_read signature ops k op same (operation_within signature ops k o same at) is) ∙ at)
+    same_Some (operation_of op) o
+    (sym (operation_read signature ops k op same (operation_within signature ops k o same at) is) ∙ at)

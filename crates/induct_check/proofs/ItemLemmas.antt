@@ -130,8 +130,9 @@ pub items_nothing : (signature : Signature) (items : List OrderItem) (i : ℕ) (
     → item ≡ get_or items i item → ListsOn signature (map listed_operation_of items) (map listed_operation_of (drop i items)) done
     → ItemGives signature (listed_operation_of item) [] → ItemsList signature (map listed_operation_of items) fs → ⊥
 items_nothing signature items i item fs done within is now gives lists =
-    lists_nothing signature (map listed_operation_of items) (map listed_operation_of (drop (i + 1) items)) (listed_operation_of item) fs
-    done (subst (λ rest. ListsOn signature (map listed_operation_of items) rest done) (item_cut items i item within is) now) gives lists
+    lists_nothing signature (map listed_operation_of items) (map listed_operation_of (drop (i + 1) items))
+    (listed_operation_of item) fs done
+    (subst (λ rest. ListsOn signature (map listed_operation_of items) rest done) (item_cut items i item within is) now) gives lists
 
 pub items_more : (signature : Signature) (items : List OrderItem) (i : ℕ) (item : OrderItem) (fs done more : List ℕ) → (fs ≡ [] → ⊥)
     → i < length items → item ≡ get_or items i item
@@ -141,12 +142,14 @@ pub items_more : (signature : Signature) (items : List OrderItem) (i : ℕ) (ite
 items_more signature items i item [] done more some within is now gives added = absurd (some refl)
 items_more signature items i item (f ∷ fs) done more some within is now gives added =
     subst (λ ms. ListsOn signature (map listed_operation_of items) (map listed_operation_of (drop (i + 1) items)) ms) (sym added)
-    (lists_more signature (map listed_operation_of items) (map listed_operation_of (drop (i + 1) items)) (listed_operation_of item) f fs
-    done (subst (λ rest. ListsOn signature (map listed_operation_of items) rest done) (item_cut items i item within is) now) gives)
+    (lists_more signature (map listed_operation_of items) (map listed_operation_of (drop (i + 1) items))
+    (listed_operation_of item) f fs done
+    (subst (λ rest. ListsOn signature (map listed_operation_of items) rest done) (item_cut items i item within is) now) gives)
 
 pub items_end : (signature : Signature) (items : List OrderItem) (i : ℕ) (done : List ℕ) → length items ≤ i
     → ListsOn signature (map listed_operation_of items) (map listed_operation_of (drop i items)) done
     → ItemsList signature (map listed_operation_of items) done
 items_end signature items i done past now =
-    lists_end signature (map listed_operation_of items) done (subst (λ rest. ListsOn signature (map listed_operation_of items) (map
-    listed_operation_of rest) done) (drop_of_length-le items past) now)
+    lists_end signature (map listed_operation_of items) done
+    (subst (λ rest. ListsOn signature (map listed_operation_of items) (map listed_operation_of rest) done)
+    (drop_of_length-le items past) now)

@@ -33,17 +33,20 @@ pub stops_right : RightOnesHaveNoFault → (theory : Theory) (signature : Signat
     (told : AtLine) → signature ≡ theory.data_.signature → read.stop ≡ Some stop → told.line ≡ stop.line → told.fault ≡ BadLine
     → IsCertified theory read.certificate → TextComesTo signature text read → HoldsAtLine (IsTextFault theory text) told
 stops_right laws theory signature text read stop told same is line fault right comes =
-    subst (λ (f : LineFault). HoldsOfLineFault (IsTextFault theory text told.line) f) (sym fault) (subst (λ (n : ℕ). IsTextFault theory text
-    n bad_line) (sym line) (at_stop (comes_stopped theory.data_.signature text read stop is (over signature theory.data_.signature text read
-    same comes)) (λ n f wrong before. laws theory read.certificate n f right wrong)))
+    subst (λ (f : LineFault). HoldsOfLineFault (IsTextFault theory text told.line) f) (sym fault)
+    (subst (λ (n : ℕ). IsTextFault theory text n bad_line) (sym line)
+    (at_stop (comes_stopped theory.data_.signature text read stop is (over signature theory.data_.signature text read same comes))
+    (λ n f wrong before. laws theory read.certificate n f right wrong)))
 
 -- the fault of the whole
 whole_fault : (theory : Theory) (signature : Signature) (text : List ℕ) (read : ReadText) (at : AtLine) → signature ≡ theory.data_.signature
     → read.stop ≡ None → HoldsAtLine (IsInductionFault theory read.certificate) at → TextComesTo signature text read
     → HoldsAtLine (IsTextFault theory text) at
 whole_fault theory signature text read at same whole wrong comes =
-    fault_more (IsInductionFault theory read.certificate at.line) (IsTextFault theory text at.line) (λ f w. in_certificate (comes_whole
-    theory.data_.signature text read whole (over signature theory.data_.signature text read same comes)) w) at.fault wrong
+    fault_more (IsInductionFault theory read.certificate at.line) (IsTextFault theory text at.line)
+    (λ f w. in_certificate (comes_whole theory.data_.signature text read whole
+    (over signature theory.data_.signature text read same comes)) w)
+    at.fault wrong
 
 -- what holds of a fault, twice
 both_hold : (P Q R : InductionFault → Type 0) → ((f : InductionFault) → P f → Q f → R f) → (fault : LineFault) → HoldsOfLineFault P fault
@@ -86,13 +89,16 @@ first_by laws theory signature text read at told None is same wrong first comes 
     subst (λ (a : AtLine). HoldsAtLine (IsTextFault theory text) a) (sym first)
     (whole_fault theory signature text read at same is wrong comes)
 first_by laws theory signature text read at told (Some stop) is same wrong (inl first) comes =
-    subst (λ (a : AtLine). HoldsAtLine (IsTextFault theory text) a) (sym first.1) (both_hold (IsInductionFault theory read.certificate
-    at.line) (ComesBeforeStop stop at.line) (IsTextFault theory text at.line) (λ f w b. before_stop (comes_stopped theory.data_.signature
-    text read stop is (over signature theory.data_.signature text read same comes)) w b) at.fault wrong first.0)
+    subst (λ (a : AtLine). HoldsAtLine (IsTextFault theory text) a) (sym first.1)
+    (both_hold (IsInductionFault theory read.certificate at.line) (ComesBeforeStop stop at.line) (IsTextFault theory text at.line)
+    (λ f w b. before_stop (comes_stopped theory.data_.signature text read stop is
+    (over signature theory.data_.signature text read same comes)) w b)
+    at.fault wrong first.0)
 first_by laws theory signature text read at told (Some stop) is same wrong (inr first) comes =
-    subst (λ (f : LineFault). HoldsOfLineFault (IsTextFault theory text told.line) f) (sym first.2) (subst (λ (n : ℕ). IsTextFault theory
-    text n bad_line) (sym first.1) (at_stop (comes_stopped theory.data_.signature text read stop is (over signature theory.data_.signature
-    text read same comes)) (fault_behind laws theory read.certificate stop at wrong first.0)))
+    subst (λ (f : LineFault). HoldsOfLineFault (IsTextFault theory text told.line) f) (sym first.2)
+    (subst (λ (n : ℕ). IsTextFault theory text n bad_line) (sym first.1)
+    (at_stop (comes_stopped theory.data_.signature text read stop is (over signature theory.data_.signature text read same comes))
+    (fault_behind laws theory read.certificate stop at wrong first.0)))
 
 pub first_told : FirstFaultsAreOne → (theory : Theory) (signature : Signature) (text : List ℕ) (read : ReadText) (at told : AtLine)
     → signature ≡ theory.data_.signature → HoldsAtLine (IsInductionFault theory read.certificate) at

@@ -37,9 +37,11 @@ module _ (parts : List (List ℕ)) where
         → LinesReadTo signature (k + 1) reading (drop k parts) text
     line_read k line reading behind piece text within is gives made rest =
         let at = line_at k line within is in
-        subst (λ ls. LinesReadTo signature (k + 1) reading ls text) (sym at.here) (goes_on piece gives (subst (λ (n : ℕ). LinesReadTo
-        signature n (with_piece reading piece) (at.next ∷ at.more) text) (add-one (k + 1)) (subst (λ (r : ReadSoFar). LinesReadTo signature
-        (k + 1 + 1) r (at.next ∷ at.more) text) made (subst (λ ls. LinesReadTo signature (k + 1 + 1) behind ls text) at.there rest))))
+        subst (λ ls. LinesReadTo signature (k + 1) reading ls text) (sym at.here)
+        (goes_on piece gives
+        (subst (λ (n : ℕ). LinesReadTo signature n (with_piece reading piece) (at.next ∷ at.more) text) (add-one (k + 1))
+        (subst (λ (r : ReadSoFar). LinesReadTo signature (k + 1 + 1) r (at.next ∷ at.more) text) made
+        (subst (λ ls. LinesReadTo signature (k + 1 + 1) behind ls text) at.there rest))))
 
     pub line_stops : (k : ℕ) (line : List ℕ) (reading : ReadSoFar) → k + 1 < length parts → slice_get parts k ≡ Some line
         → ((piece : Piece) → ¬ LineGives signature reading line piece)
@@ -54,8 +56,9 @@ module _ (parts : List (List ℕ)) where
         → LinesReadTo signature (k + 1) reading (drop k parts) (stopped_at reading k line)
     line_fails k line reading within is fails =
         let at = line_at k line within is in
-        subst (λ ls. LinesReadTo signature (k + 1) reading ls (stopped_at reading k line)) (sym at.here) (subst (λ (n : ℕ). LinesReadTo
-        signature n reading (line ∷ at.next ∷ at.more) (stopped_at reading k line)) (sym (add-one k)) (stops_at_left fails))
+        subst (λ ls. LinesReadTo signature (k + 1) reading ls (stopped_at reading k line)) (sym at.here)
+        (subst (λ (n : ℕ). LinesReadTo signature n reading (line ∷ at.next ∷ at.more) (stopped_at reading k line)) (sym (add-one k))
+        (stops_at_left fails))
 
     -- what stands behind the last line
     pub rest_read : (k last : ℕ) (rest : List ℕ) (reading : ReadSoFar) (text : ReadText) → k ≤ last → last ≤ k → last + 1 ≡ length parts
@@ -78,8 +81,9 @@ lacks_feed signature number reading (byte ∷ bytes) text some is =
 pub comes_to_end : (signature : Signature) (number : ℕ) (reading : ReadSoFar) (rest : List ℕ) → rest ≡ [] → may_end reading.part ≡ true
     → LinesReadTo signature number reading (rest ∷ []) (record { certificate = reading.certificate; stop = None })
 comes_to_end signature number reading rest none end =
-    subst (λ (r : List ℕ). LinesReadTo signature number reading (r ∷ []) (record { certificate = reading.certificate; stop = None })) (sym
-    none) (ends end)
+    subst (λ (r : List ℕ). LinesReadTo signature number reading (r ∷ []) (record { certificate = reading.certificate; stop = None }))
+    (sym none)
+    (ends end)
 
 pub lacks_line : (signature : Signature) (number : ℕ) (reading : ReadSoFar) (rest : List ℕ) → rest ≡ [] → may_end reading.part ≡ false
     → LinesReadTo signature number reading (rest ∷ []) (stopped_reading reading number false)

@@ -34,8 +34,9 @@ module _ (signature : Signature) (well : IsWellFormedSignature signature) where
 
   operations_once : (text fs gs : List ℕ) → AreOperationsOf signature text fs → AreOperationsOf signature text gs → fs ≡ gs
   operations_once text fs gs one other =
-      items_once one.2 (subst (λ (items : List ListedOperation). ItemsList signature items gs) (sym (all_have_one_outcome.order.one_tree 0
-      text one.0 other.0 one.1 other.1)) other.2)
+      items_once one.2
+      (subst (λ (items : List ListedOperation). ItemsList signature items gs)
+      (sym (all_have_one_outcome.order.one_tree 0 text one.0 other.0 one.1 other.1)) other.2)
 
   pub same_cover : (sort text : List ℕ) (one other : Cover) → IsSortNamed signature one.sort sort
       → AreOperationsOf signature text one.operations → IsSortNamed signature other.sort sort
@@ -84,7 +85,8 @@ module _ (signature : Signature) (well : IsWellFormedSignature signature) where
       let w = member_at ws i (subst (λ (n : ℕ). i < n) one.count (slice_get_within xs i x at)) in
       let first = one.each i w.0 x w.1 at in
       let second = other.each i w.0 y w.1 there in
-      variable_same x y (first.0 ∙ sym second.0) (first.1 ∙ sym second.1) (sort_once w.0.sort x.sort y.sort first.2 second.2))
+      variable_same x y (first.0 ∙ sym second.0) (first.1 ∙ sym second.1)
+      (sort_once w.0.sort x.sort y.sort first.2 second.2))
 
   lemma_variables_once : (text : Option (List ℕ)) (xs ys : List Variable) → AreLemmaVariables signature text xs
       → AreLemmaVariables signature text ys → xs ≡ ys
@@ -194,14 +196,17 @@ module _ (one_fault : FirstFaultsAreOne) (no_fault : RightOnesHaveNoFault) (theo
 
   pub certified_once : (one other : List Lemma) → IsCertifiedText theory text one → IsCertifiedText theory text other → one ≡ other
   certified_once one other is also =
-      sym is.lemmas_are ∙ ap (λ (r : ReadText). r.certificate.lemmas) (once (whole is.certificate) (whole also.certificate) is.read
-      also.read) ∙ also.lemmas_are
+      sym is.lemmas_are
+      ∙ ap (λ (r : ReadText). r.certificate.lemmas)
+      (once (whole is.certificate) (whole also.certificate) is.read also.read)
+      ∙ also.lemmas_are
 
   pub certified_not_faulty : (lemmas : List Lemma) (line : ℕ) (fault : InductionFault) → IsCertifiedText theory text lemmas
       → IsTextFault theory text line fault → ⊥
   certified_not_faulty lemmas line fault is (in_certificate {certificate = c} read wrong) =
-      no_fault theory c line fault (subst (λ (d : Certificate). IsCertified theory d) (ap (λ (r : ReadText). r.certificate) (once (whole
-      is.certificate) (whole c) is.read read)) is.right) wrong
+      no_fault theory c line fault
+      (subst (λ (d : Certificate). IsCertified theory d)
+      (ap (λ (r : ReadText). r.certificate) (once (whole is.certificate) (whole c) is.read read)) is.right) wrong
   certified_not_faulty lemmas line fault is (before_stop {certificate = c} {stop = stop} comes wrong before) =
       never is.certificate c stop (once (whole is.certificate) (stopped_so c stop) is.read comes)
   certified_not_faulty lemmas line fault is (at_stop {certificate = c} {stop = stop} comes none) =
@@ -211,14 +216,16 @@ module _ (one_fault : FirstFaultsAreOne) (no_fault : RightOnesHaveNoFault) (theo
   faults_alike : (c d : Certificate) (line more : ℕ) (fault other : InductionFault) → c ≡ d → IsInductionFault theory c line fault
       → IsInductionFault theory d more other → (line ≡ more) × (fault ≡ other)
   faults_alike c d line more fault other same wrong also =
-      one_fault theory d line more fault other (subst (λ (e : Certificate). IsInductionFault theory e line fault) same wrong) also
+      one_fault theory d line more fault other
+      (subst (λ (e : Certificate). IsInductionFault theory e line fault) same wrong) also
 
   -- a fault that comes before the stop, and the stop
   not_at_stop : (c d : Certificate) (stop last : Stop) (line : ℕ) (fault : InductionFault) → stopped_so c stop ≡ stopped_so d last
       → IsInductionFault theory c line fault → ComesBeforeStop stop line fault
       → ((n : ℕ) (f : InductionFault) → IsInductionFault theory d n f → ¬ ComesBeforeStop last n f) → ⊥
   not_at_stop c d stop last line fault same wrong before none =
-      none line fault (subst (λ (e : Certificate). IsInductionFault theory e line fault) (ap (λ (r : ReadText). r.certificate) same) wrong)
+      none line fault
+      (subst (λ (e : Certificate). IsInductionFault theory e line fault) (ap (λ (r : ReadText). r.certificate) same) wrong)
       (subst (λ (s : Stop). ComesBeforeStop s line fault) (same_stop stop last (ap (λ (r : ReadText). r.stop) same)) before)
 
   pub text_fault_once : (line more : ℕ) (fault other : InductionFault) → IsTextFault theory text line fault
@@ -228,7 +235,8 @@ module _ (one_fault : FirstFaultsAreOne) (no_fault : RightOnesHaveNoFault) (theo
   text_fault_once line more fault other (in_certificate {certificate = c} read wrong)
       (before_stop {certificate = d} {stop = stop} comes also before) =
       never c d stop (once (whole c) (stopped_so d stop) read comes)
-  text_fault_once line more fault other (in_certificate {certificate = c} read wrong) (at_stop {certificate = d} {stop = stop} comes none) =
+  text_fault_once line more fault other (in_certificate {certificate = c} read wrong)
+      (at_stop {certificate = d} {stop = stop} comes none) =
       never c d stop (once (whole c) (stopped_so d stop) read comes)
   text_fault_once line more fault other (before_stop {certificate = d} {stop = stop} comes wrong before)
       (in_certificate {certificate = c} read also) =
@@ -240,7 +248,8 @@ module _ (one_fault : FirstFaultsAreOne) (no_fault : RightOnesHaveNoFault) (theo
   text_fault_once line more fault other (before_stop {certificate = c} {stop = stop} comes wrong before)
       (at_stop {certificate = d} {stop = last} again none) =
       absurd (not_at_stop c d stop last line fault (once (stopped_so c stop) (stopped_so d last) comes again) wrong before none)
-  text_fault_once line more fault other (at_stop {certificate = d} {stop = stop} comes none) (in_certificate {certificate = c} read also) =
+  text_fault_once line more fault other (at_stop {certificate = d} {stop = stop} comes none)
+      (in_certificate {certificate = c} read also) =
       never c d stop (once (whole c) (stopped_so d stop) read comes)
   text_fault_once line more fault other (at_stop {certificate = d} {stop = last} again none)
       (before_stop {certificate = c} {stop = stop} comes also before) =

@@ -51,8 +51,9 @@ first_part separator bytes k e =
 pub part_cut : (separator : ℕ) (bytes : List ℕ) (k : ℕ) → Some k ≡ position (λ b. b == separator) bytes
     → parts_at separator bytes ≡ take k bytes ∷ parts_at separator (take (length bytes - (k + 1)) (drop (k + 1) bytes))
 part_cut separator bytes k e =
-    first_part separator bytes k e ∙ ap (λ (it : List ℕ). take k bytes ∷ parts_at separator it) (ap (λ (j : ℕ). drop j bytes) (sym (add-one
-    k)) ∙ sym (take_rest bytes (k + 1)))
+    first_part separator bytes k e
+    ∙ ap (λ (it : List ℕ). take k bytes ∷ parts_at separator it)
+    (ap (λ (j : ℕ). drop j bytes) (sym (add-one k)) ∙ sym (take_rest bytes (k + 1)))
 
 pub short_cut : (separator : ℕ) (bytes : List ℕ) (k : ℕ) → Some k ≡ position (λ b. b == separator) bytes
     → length (take (length bytes - (k + 1)) (drop (k + 1) bytes)) < length bytes

@@ -18,7 +18,9 @@ pub line_leaves : (signature : Signature) (rules : List Rule) (covers : List Cov
     (left : List Pattern) → PatternComesTo signature rules covers pattern line left → left ≡ patterns_behind signature covers pattern line
 line_leaves signature rules covers pattern leaf_here left comes = comes.1
 line_leaves signature rules covers pattern (split_pattern path) left comes =
-    comes.5 ∙ (sym (ap (patterns_by signature pattern comes.0 comes.1) comes.4) ∙ sym (ap (patterns_at signature covers pattern) comes.3))
+    comes.5
+    ∙ (sym (ap (patterns_by signature pattern comes.0 comes.1) comes.4)
+    ∙ sym (ap (patterns_at signature covers pattern) comes.3))
 
 none_there : (signature : Signature) (covers : List Cover) (pattern : Pattern) (part : Option Term)
     → ((n s : ℕ) → ¬ (part ≡ Some (variable n s))) → patterns_at signature covers pattern part ≡ []
@@ -32,7 +34,8 @@ wrong_leaves signature rules covers pattern leaf_here fault wrong = refl
 wrong_leaves signature rules covers pattern (split_pattern path) fault (inl none) =
     sym (none_there signature covers pattern (subterm path pattern.term) none.0)
 wrong_leaves signature rules covers pattern (split_pattern path) fault (inr uncovered) =
-    sym (ap (patterns_at signature covers pattern) uncovered.2 ∙ ap (patterns_by signature pattern uncovered.0 uncovered.1) uncovered.3)
+    sym (ap (patterns_at signature covers pattern) uncovered.2
+    ∙ ap (patterns_by signature pattern uncovered.0 uncovered.1) uncovered.3)
 
 -- ---- Covers
 
@@ -64,7 +67,8 @@ results_with signature covers cover before here s f operations found among = go 
     go : (cover_of covers s ≡ Some operations) ⊎ ((cover.sort ≡ s) × (cover.operations ≡ operations)) → HasResult signature s f
     go (inl earlier) = before s f operations earlier among
     go (inr last) =
-        subst (λ (q : ℕ). HasResult signature q f) last.0 (here f (subst (λ (fs : List ℕ). IsListedIn fs f) (sym last.1) among))
+        subst (λ (q : ℕ). HasResult signature q f) last.0
+        (here f (subst (λ (fs : List ℕ). IsListedIn fs f) (sym last.1) among))
 
 pub no_results : (signature : Signature) → (s f : ℕ) (operations : List ℕ) → cover_of [] s ≡ Some operations → IsListedIn operations f
     → HasResult signature s f

@@ -29,8 +29,9 @@ last_changed f (y ∷ z ∷ zs) x = ap (λ ws. y ∷ ws) (last_changed f (z ∷ 
 pub last_put : {A Y : Type 0} (view : A → Y) (f : Y → Y) (old left new : List A) (x y : A) → old ≡ left ++ x ∷ [] → new ≡ left ++ y ∷ []
     → view y ≡ f (view x) → map view new ≡ with_last f (map view old)
 last_put view f old left new x y was is changed =
-    pushed view left new y is ∙ (ap (λ v. map view left ++ v ∷ []) changed ∙ (sym (last_changed f (map view left) (view x)) ∙ ap (with_last
-    f) (sym (pushed view left old x was))))
+    pushed view left new y is
+    ∙ (ap (λ v. map view left ++ v ∷ []) changed
+    ∙ (sym (last_changed f (map view left) (view x)) ∙ ap (with_last f) (sym (pushed view left old x was))))
 
 pub each_last_put : {A : Type 0} (P : A → Type 0) (old left new : List A) (x y : A) → old ≡ left ++ x ∷ [] → new ≡ left ++ y ∷ []
     → (P x → P y) → Each P old → Each P new

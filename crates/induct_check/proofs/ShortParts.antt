@@ -16,7 +16,8 @@ within_by : (separator byte : ℕ) (bytes : List ℕ) (b : Bool) → Each (IsWit
     → Each (IsWithin (suc (length bytes))) (if b then [] ∷ parts_at separator bytes else byte_before byte (parts_at separator bytes))
 within_by separator byte bytes true each = (
   omega arith,
-  each_more (IsWithin (length bytes)) (IsWithin (suc (length bytes))) (parts_at separator bytes) (λ part h. omega (arith, h)) each,
+  each_more (IsWithin (length bytes)) (IsWithin (suc (length bytes))) (parts_at separator bytes)
+      (λ part h. omega (arith, h)) each,
 )
 within_by separator byte bytes false each = before_within byte (length bytes) (parts_at separator bytes) each
 

@@ -28,8 +28,10 @@ pub stuck_token : (text : List ℕ) (tokens : List Token) (read behind : Variabl
     → read_tokens text none_read tokens ≡ read_tokens text read (drop i tokens) → AreVariables text tokens ws → ⊥
 stuck_token text tokens read behind i d fits ws within is goes so_far are =
     let none : read_tokens text none_read tokens ≡ None =
-    so_far ∙ (ap (λ (ts : List Token). read_tokens text read ts) (drop-cons tokens i d within) ∙ (ap (λ o. read_on text o (drop (suc i)
-    tokens)) (leads_nowhere fits read behind text (get_or tokens i d) is goes) ∙ none_stays text (drop (suc i) tokens))) in
+    so_far
+    ∙ (ap (λ (ts : List Token). read_tokens text read ts) (drop-cons tokens i d within)
+    ∙ (ap (λ o. read_on text o (drop (suc i) tokens)) (leads_nowhere fits read behind text (get_or tokens i d) is goes)
+    ∙ none_stays text (drop (suc i) tokens))) in
     let both = sym none ∙ variables_read text tokens ws are in
     cc both
 
@@ -41,12 +43,14 @@ ends_with text tokens read i past so_far =
 pub tokens_done : (text : List ℕ) (tokens : List Token) (read : VariablesRead) (i : ℕ) → length tokens ≤ i → read.awaited ≡ comma_or_end
     → read_tokens text none_read tokens ≡ read_tokens text read (drop i tokens) → AreVariables text tokens read.variables
 tokens_done text tokens read i past end so_far =
-    are_variables text tokens read.variables read.names (ends_with text tokens read i past so_far
+    are_variables text tokens read.variables read.names
+    (ends_with text tokens read i past so_far
     ∙ ap (λ (a : Awaited). Some (record { variables = read.variables; names = read.names; awaited = a })) end)
 
 pub tokens_open : (text : List ℕ) (tokens : List Token) (read : VariablesRead) (i : ℕ) (ws : List WrittenVariable) → length tokens ≤ i
     → (read.awaited ≡ comma_or_end → ⊥) → read_tokens text none_read tokens ≡ read_tokens text read (drop i tokens)
     → AreVariables text tokens ws → ⊥
 tokens_open text tokens read i ws past open_ so_far are =
-    open_ (ap (λ (r : VariablesRead). r.awaited) (same_Some read (record { variables = ws; names = []; awaited = comma_or_end }) (sym
-    (ends_with text tokens read i past so_far) ∙ variables_read text tokens ws are)))
+    open_ (ap (λ (r : VariablesRead). r.awaited)
+    (same_Some read (record { variables = ws; names = []; awaited = comma_or_end })
+    (sym (ends_with text tokens read i past so_far) ∙ variables_read text tokens ws are)))

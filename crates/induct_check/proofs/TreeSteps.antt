@@ -51,12 +51,14 @@ pub patterns_put : (old popped new : List CodePattern) (pattern : CodePattern) (
     → reverse new ≡ parts ++ reverse popped
     → patterns_in (reverse new) ≡ patterns_in parts ++ without_first (patterns_in (reverse old))
 patterns_put old popped new pattern parts top after =
-    ap patterns_in after ∙ (map-append pattern_in parts (reverse popped) ∙ ap (λ ps. patterns_in parts ++ without_first ps) (sym
-    (top_pattern old popped pattern top)))
+    ap patterns_in after
+    ∙ (map-append pattern_in parts (reverse popped)
+    ∙ ap (λ ps. patterns_in parts ++ without_first ps) (sym (top_pattern old popped pattern top)))
 
 pub put_known : (old popped new : List CodePattern) (pattern : CodePattern) (parts : List CodePattern) → old ≡ popped ++ pattern ∷ []
     → reverse new ≡ parts ++ reverse popped → Each IsKnownPattern (patterns_in (reverse old)) → Each IsKnownPattern (patterns_in parts)
     → Each IsKnownPattern (patterns_in (reverse new))
 put_known old popped new pattern parts top after each more =
-    subst (Each IsKnownPattern) (sym (ap patterns_in after ∙ map-append pattern_in parts (reverse popped))) (each_join IsKnownPattern
-    (patterns_in parts) (patterns_in (reverse popped)) more (subst (Each IsKnownPattern) (top_pattern old popped pattern top) each).1)
+    subst (Each IsKnownPattern) (sym (ap patterns_in after ∙ map-append pattern_in parts (reverse popped)))
+    (each_join IsKnownPattern (patterns_in parts) (patterns_in (reverse popped)) more
+    (subst (Each IsKnownPattern) (top_pattern old popped pattern top) each).1)

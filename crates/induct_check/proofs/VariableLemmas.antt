@@ -30,8 +30,9 @@ takes_name text vs ns token rest is =
 takes_comma : (text : List ℕ) (vs : List WrittenVariable) (ns : List PlacedName) (token : Token) (rest : List Token) → IsOfKind COMMA token
     → read_tokens text (at comma_or_colon vs ns) (token ∷ rest) ≡ read_tokens text (at a_name vs ns) rest
 takes_comma text vs ns token rest is =
-    ap (λ (b : Bool). read_on text (if b then Some (at a_name vs ns) else if token.kind == COLON then Some (at a_sort vs ns) else None)
-    rest) (of_kind COMMA token is)
+    ap (λ (b : Bool). read_on text (if b then Some (at a_name vs ns) else if token.kind == COLON then Some
+    (at a_sort vs ns) else None) rest)
+    (of_kind COMMA token is)
 
 not_comma : (token : Token) → IsOfKind COLON token → (token.kind == COMMA) ≡ false
 not_comma token is = ap (λ (k : ℕ). k == COMMA) is.kind_is
@@ -39,8 +40,10 @@ not_comma token is = ap (λ (k : ℕ). k == COMMA) is.kind_is
 takes_colon : (text : List ℕ) (vs : List WrittenVariable) (ns : List PlacedName) (token : Token) (rest : List Token) → IsOfKind COLON token
     → read_tokens text (at comma_or_colon vs ns) (token ∷ rest) ≡ read_tokens text (at a_sort vs ns) rest
 takes_colon text vs ns token rest is =
-    ap (λ (b : Bool). read_on text (if b then Some (at a_name vs ns) else if token.kind == COLON then Some (at a_sort vs ns) else None)
-    rest) (not_comma token is) ∙ ap (λ (b : Bool). read_on text (if b then Some (at a_sort vs ns) else None) rest) (of_kind COLON token is)
+    ap (λ (b : Bool). read_on text (if b then Some (at a_name vs ns) else if token.kind == COLON then Some
+    (at a_sort vs ns) else None) rest)
+    (not_comma token is)
+    ∙ ap (λ (b : Bool). read_on text (if b then Some (at a_sort vs ns) else None) rest) (of_kind COLON token is)
 
 takes_sort : (text : List ℕ) (vs : List WrittenVariable) (ns : List PlacedName) (token : Token) (rest : List Token) → IsOfKind NAME token
     → read_tokens text (at a_sort vs ns) (token ∷ rest)
@@ -60,9 +63,11 @@ names_read : (text : List ℕ) (tokens : List Token) (names : List PlacedName) �
 names_read text tokens names (last (one_name_token {name = token} is)) vs ns rest = takes_name text vs ns token rest is
 names_read text tokens names (before_more {rest = more} {token = comma} {values = others} (one_name_token {name = token} is) is_comma are)
     vs ns rest =
-    takes_name text vs ns token (comma ∷ more ++ rest) is ∙ (takes_comma text vs (ns ++ named text token ∷ []) comma (more ++ rest) is_comma
-    ∙ (names_read text more others are vs (ns ++ named text token ∷ []) rest ∙ ap (λ (xs : List PlacedName). read_tokens text (at
-    comma_or_colon vs xs) rest) (append_assoc ns (named text token ∷ []) others)))
+    takes_name text vs ns token (comma ∷ more ++ rest) is
+    ∙ (takes_comma text vs (ns ++ named text token ∷ []) comma (more ++ rest) is_comma
+    ∙ (names_read text more others are vs (ns ++ named text token ∷ []) rest
+    ∙ ap (λ (xs : List PlacedName). read_tokens text (at comma_or_colon vs xs) rest)
+    (append_assoc ns (named text token ∷ []) others)))
 
 group_read : (text : List ℕ) (tokens : List Token) (group : List WrittenVariable) → AreVariablesOfSort text tokens group
     → (vs : List WrittenVariable) (rest : List Token)
@@ -76,14 +81,17 @@ groups_read : (text : List ℕ) (tokens : List Token) (groups : List (List Writt
     → Separated COMMA (AreVariablesOfSort text) tokens groups → (vs : List WrittenVariable)
     → read_tokens text (at a_name vs []) tokens ≡ Some (at comma_or_end (vs ++ flat_map (λ (g : List WrittenVariable). g) groups) [])
 groups_read text tokens groups (last {value = group} one) vs =
-    ap (λ (ts : List Token). read_tokens text (at a_name vs []) ts) (sym (append-nil tokens)) ∙ (group_read text tokens group one vs [] ∙ ap
-    (λ (xs : List WrittenVariable). Some (at comma_or_end (vs ++ xs) [])) (sym (append-nil group)))
+    ap (λ (ts : List Token). read_tokens text (at a_name vs []) ts) (sym (append-nil tokens))
+    ∙ (group_read text tokens group one vs []
+    ∙ ap (λ (xs : List WrittenVariable). Some (at comma_or_end (vs ++ xs) [])) (sym (append-nil group)))
 groups_read text tokens groups (before_more {tokens = first} {rest = more} {token = comma} {value = group} {values = others} one is_comma
     are)
     vs =
-    group_read text first group one vs (comma ∷ more) ∙ (takes_next text (vs ++ group) comma more is_comma ∙ (groups_read text more others
-    are (vs ++ group) ∙ ap (λ (xs : List WrittenVariable). Some (at comma_or_end xs [])) (append_assoc vs group (flat_map (λ (g : List
-    WrittenVariable). g) others))))
+    group_read text first group one vs (comma ∷ more)
+    ∙ (takes_next text (vs ++ group) comma more is_comma
+    ∙ (groups_read text more others are (vs ++ group)
+    ∙ ap (λ (xs : List WrittenVariable). Some (at comma_or_end xs []))
+    (append_assoc vs group (flat_map (λ (g : List WrittenVariable). g) others))))
 
 pub variables_read : (text : List ℕ) (tokens : List Token) (ws : List WrittenVariable) → AreVariables text tokens ws
     → read_tokens text none_read tokens ≡ Some (at comma_or_end ws [])
@@ -187,9 +195,10 @@ groups_from text vs group front rest ws one (groups_left {groups = groups} is_co
 all_groups : (text : List ℕ) (vs : List WrittenVariable) (tokens : List Token) (ws : List WrittenVariable) → NamesLeft text vs [] tokens ws
     → AreGroups text vs tokens ws
 all_groups text vs tokens ws left =
-    subst (λ (ts : List Token). AreGroups text vs ts ws) (append_assoc left.front (left.colon ∷ left.sort ∷ []) left.rest ∙ sym
-    left.tokens_are) (groups_from text vs (variables_of_sort left.names (named text left.sort)) (left.front ++ left.colon ∷ left.sort ∷ [])
-    left.rest ws (group_of text vs tokens ws left) left.behind)
+    subst (λ (ts : List Token). AreGroups text vs ts ws)
+    (append_assoc left.front (left.colon ∷ left.sort ∷ []) left.rest ∙ sym left.tokens_are)
+    (groups_from text vs (variables_of_sort left.names (named text left.sort)) (left.front ++ left.colon ∷ left.sort ∷ []) left.rest ws
+    (group_of text vs tokens ws left) left.behind)
 
 with_groups : (text : List ℕ) (vs : List WrittenVariable) (comma : Token) (tokens : List Token) (ws : List WrittenVariable)
     → IsOfKind COMMA comma → AreGroups text vs tokens ws → GroupsLeft text vs (comma ∷ tokens) ws

@@ -126,8 +126,9 @@ one_not_earlier written k number d e before within differ so_far j v w below at 
     by (inl less) = so_far j v w less at here same
     by (inr is) =
         let first : v ≡ written_variable_of (get_or written k d) =
-        same_Some v (written_variable_of (get_or written k d)) (sym at ∙ (ap (λ (i : ℕ). slice_get (written_variables_of written) i) is ∙
-        read_variable written k d (omega (arith, before, within)))) in
+        same_Some v (written_variable_of (get_or written k d))
+        (sym at ∙ (ap (λ (i : ℕ). slice_get (written_variables_of written) i) is
+        ∙ read_variable written k d (omega (arith, before, within)))) in
         let second : w ≡ written_variable_of (get_or written number e) =
         same_Some w (written_variable_of (get_or written number e)) (sym here ∙ read_variable written number e within) in
         differ (subst (λ (x : WrittenVariable). AreOneName x.name (spelling (get_or written number e).name)) first

@@ -69,12 +69,14 @@ pub fn number_named(names: &[Name], name: &Name) -> usize
     names.len()
 }
 
-/// Named cases, where there is memory for them.
-pub type NamedCases = Result<Vec<NamedCase>, NoMemory>;
-
 /// The cases that a split of the variable with the name leaves: one for each operation of the cover
 /// of its sort; none where there is no such variable, or no cover.
-pub fn cases_behind(known: &Known, covers: &[Cover], point: &NamedCase, name: &Name) -> NamedCases
+pub fn cases_behind(
+    known: &Known,
+    covers: &[Cover],
+    point: &NamedCase,
+    name: &Name,
+) -> Result<Vec<NamedCase>, NoMemory>
     ensures { IfOk result (λ cases. named_cases_in cases.items
         ≡ plain.cases_behind (known_signature known.now) (covers_in covers.now)
         (named_case_in point.now) (spelling name.now)) }
@@ -90,7 +92,12 @@ pub fn cases_behind(known: &Known, covers: &[Cover], point: &NamedCase, name: &N
 }
 
 // The cases of the operations, in the order of the signature.
-fn cases_by(known: &Known, point: &NamedCase, name: &Name, operations: &[u32]) -> NamedCases
+fn cases_by(
+    known: &Known,
+    point: &NamedCase,
+    name: &Name,
+    operations: &[u32],
+) -> Result<Vec<NamedCase>, NoMemory>
     ensures { IfOk result (λ cases. named_cases_in cases.items
         ≡ plain.cases_by (known_signature known.now) (named_case_in point.now) (spelling name.now)
         (Some operations.now)) }

@@ -83,8 +83,9 @@ pub part_is : (theory : Theory) (proving : PlainProving) (point part : Case) (n 
     → statement_of part.goal ≡ in_both theory.canon (statement_of with_term)
     → case_in part ≡ case_with theory proving (case_in point) n one.operation.result one
 part_is theory proving point part n one term with_term sorts gone hypotheses sort is put goal =
-    same_case (case_in part) (case_with theory proving (case_in point) n one.operation.result one) sorts gone hypotheses (goal ∙ ap (in_both
-    theory.canon) (put ∙ (λ i. in_both (substituted (put_for n (sort i) (is i))) (statement_of point.goal))))
+    same_case (case_in part) (case_with theory proving (case_in point) n one.operation.result one) sorts gone hypotheses
+    (goal ∙ ap (in_both theory.canon) (put
+    ∙ (λ i. in_both (substituted (put_for n (sort i) (is i))) (statement_of point.goal))))
 
 pub part_is_known : (setting : Setting) (data_ : Data) (canon : Term → Term) (proving : Proving) (point part : Case) (n : ℕ)
     (one : Numbered) → IsSet setting data_ canon → IsKnownCase (setting_signature setting) proving.free point
@@ -123,8 +124,9 @@ pub used_is_known : (setting : Setting) (data_ : Data) (canon : Term → Term) (
     → IsStatementOf (setting_signature setting) part.goal → Each (IsStatementOf (setting_signature setting)) part.hypotheses.items
     → IsKnownCase (setting_signature setting) proving.free part
 used_is_known setting data_ canon proving point part use_ result set before known used is goal hypotheses = record {
-  fine = subst (IsFineCase (setting_signature setting) proving.free) (sym is) (used_fine (theory_in setting data_ canon) (proving_in
-      proving) (case_in point) use_ result set.fit (earlier_sorted (setting_signature setting) proving.earlier.now before) used known.fine);
+  fine = subst (IsFineCase (setting_signature setting) proving.free) (sym is)
+      (used_fine (theory_in setting data_ canon) (proving_in proving) (case_in point) use_ result set.fit
+      (earlier_sorted (setting_signature setting) proving.earlier.now before) used known.fine);
   goal = goal;
   hypotheses = hypotheses;
 }

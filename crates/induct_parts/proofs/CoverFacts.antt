@@ -61,7 +61,8 @@ members_more P xs n within one so_far i f less at = go (least i n less)
     go : (i < n) ⊎ (i ≡ n) → P f
     go (inl below) = so_far i f below at
     go (inr same) =
-        subst P (same_Some (get_or xs n 0) f (sym (slice_get-get_or xs n 0 within) ∙ (ap (slice_get xs) (sym same) ∙ at))) one
+        subst P (same_Some (get_or xs n 0) f
+        (sym (slice_get-get_or xs n 0 within) ∙ (ap (slice_get xs) (sym same) ∙ at))) one
 
 pub members_all : (P : ℕ → Type 0) (xs : List ℕ) (n : ℕ) → length xs ≤ n
     → ((i f : ℕ) → i < n → slice_get xs i ≡ Some f → P f) → (i f : ℕ) → slice_get xs i ≡ Some f → P f
@@ -109,7 +110,8 @@ once_more xs n within none once i j f at there = go (part i at) (part j there)
     part : (k : ℕ) → slice_get (take (n + 1) xs) k ≡ Some f
         → (slice_get (take n xs) k ≡ Some f) ⊎ ((k ≡ length (take n xs)) × (last ≡ f))
     part k found =
-        split k (from_join (take n xs) (last ∷ []) k f (subst (λ (ys : List ℕ). slice_get ys k ≡ Some f) (take_more xs n 0 within) found))
+        split k (from_join (take n xs) (last ∷ []) k f
+        (subst (λ (ys : List ℕ). slice_get ys k ≡ Some f) (take_more xs n 0 within) found))
 
     beyond : (k : ℕ) → slice_get (take n xs) k ≡ Some f → last ≡ f → ⊥
     beyond k front same =

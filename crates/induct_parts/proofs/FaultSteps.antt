@@ -18,17 +18,20 @@ module _ (theory : Theory) (certificate : Certificate) where
       certificate.covers) at
       → HoldsAtLine (IsInductionFault theory certificate) at
   covers_fault at wrong =
-      fault_more (FirstIsWrong (IsRightCover theory.data_.signature) (IsWrongCover theory.data_.signature) lines_of_cover 1 []
-      certificate.covers at.line) (IsInductionFault theory certificate at.line) (λ fault w. in_covers w) at.fault wrong
+      fault_more
+      (FirstIsWrong (IsRightCover theory.data_.signature) (IsWrongCover theory.data_.signature) lines_of_cover 1 [] certificate.covers
+      at.line)
+      (IsInductionFault theory certificate at.line) (λ fault w. in_covers w) at.fault wrong
 
   pub trees_fault : (at : AtLine) → AreRightBehind (IsRightCover theory.data_.signature) [] certificate.covers
       → HoldsAtLine (FirstIsWrong (IsRightTree theory certificate.covers) (IsWrongTree theory certificate.covers) lines_of_tree
       (1 + length certificate.covers) [] certificate.trees) at
       → HoldsAtLine (IsInductionFault theory certificate) at
   trees_fault at covers wrong =
-      fault_more (FirstIsWrong (IsRightTree theory certificate.covers) (IsWrongTree theory certificate.covers) lines_of_tree (1 + length
-      certificate.covers) [] certificate.trees at.line) (IsInductionFault theory certificate at.line) (λ fault w. in_trees covers w)
-      at.fault wrong
+      fault_more
+      (FirstIsWrong (IsRightTree theory certificate.covers) (IsWrongTree theory certificate.covers) lines_of_tree
+      (1 + length certificate.covers) [] certificate.trees at.line)
+      (IsInductionFault theory certificate at.line) (λ fault w. in_trees covers w) at.fault wrong
 
   pub lack_fault : (at : AtLine) → AreRightBehind (IsRightCover theory.data_.signature) [] certificate.covers
       → AreRightBehind (IsRightTree theory certificate.covers) [] certificate.trees
@@ -48,9 +51,10 @@ module _ (theory : Theory) (certificate : Certificate) where
       (1 + length certificate.covers + lines_of_trees certificate.trees) [] certificate.lemmas) at
       → HoldsAtLine (IsInductionFault theory certificate) at
   lemmas_fault at covers trees complete wrong =
-      fault_more (FirstIsWrong (IsRightLemma theory certificate.covers) (IsWrongLemma theory certificate.covers) lines_of_lemma (1 + length
-      certificate.covers + lines_of_trees certificate.trees) [] certificate.lemmas at.line) (IsInductionFault theory certificate at.line) (λ
-      fault w. in_lemmas covers trees complete w) at.fault wrong
+      fault_more
+      (FirstIsWrong (IsRightLemma theory certificate.covers) (IsWrongLemma theory certificate.covers) lines_of_lemma
+      (1 + length certificate.covers + lines_of_trees certificate.trees) [] certificate.lemmas at.line)
+      (IsInductionFault theory certificate at.line) (λ fault w. in_lemmas covers trees complete w) at.fault wrong
 
   pub all_covered : IsFit theory → IsCertificateOver theory.data_.signature certificate → IsCertified theory certificate
       → AllCovered theory.data_.signature theory.rules certificate.covers

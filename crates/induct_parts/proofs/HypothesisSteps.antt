@@ -75,7 +75,8 @@ pub hypotheses_go_on : (goal : PlainStatement) (n s next i r : ℕ) (arguments :
     → IsMadeSoFar (hypotheses_make goal n s next) arguments whole (i + 1) more
 hypotheses_go_on goal n s next i r arguments made more whole within is added so_far =
     one_more (hypotheses_make goal n s next) (if_sorted goal n s next) arguments whole (hypothesis_first goal n s next) i r made more within
-    is added so_far
+    is
+    added so_far
 
 pub hypotheses_end : (goal : PlainStatement) (n s next i : ℕ) (arguments : List ℕ) (made whole : List PlainStatement)
     → length arguments ≤ i → IsMadeSoFar (hypotheses_make goal n s next) arguments whole i made → made ≡ whole
@@ -136,8 +137,9 @@ module _ (setting : Setting) (point : Case) (put : Put) (is : IsPut setting poin
       → k < length point.hypotheses.items → h ≡ get_or point.hypotheses.items k h → (s : ℕ)
       → OccursInSide (statement_of h) put.variable s → s ≡ put.term.now.sort
   put_in_hypothesis free known k h within at s o =
-      hypothesis_sort (setting_signature setting) free point k h put.variable put.op.now.result known (slice_get_read point.hypotheses.items
-      (length point.hypotheses.items) k h refl within at) is.scope s o ∙ sym put_sort
+      hypothesis_sort (setting_signature setting) free point k h put.variable put.op.now.result known
+      (slice_get_read point.hypotheses.items (length point.hypotheses.items) k h refl within at) is.scope s o
+      ∙ sym put_sort
 
   -- the hypotheses behind a split
   pub free_behind : (proving : Proving) (made : List PlainStatement) → put.variable < proving.free
@@ -152,6 +154,7 @@ module _ (setting : Setting) (point : Case) (put : Put) (is : IsPut setting poin
       (map statement_of point.hypotheses.items)
       → made ≡ hypotheses_behind (proving_in proving) (case_in point) put.variable put.op.now.result (numbered_in put)
   fixed_behind proving made past e =
-      e ∙ (ap (λ (t : Term). map (in_both (substituted (put_for put.variable put.op.now.result t))) (map statement_of
-      point.hypotheses.items)) put_term ∙ sym (behind_fixed (proving_in proving) (case_in point) put.variable put.op.now.result (numbered_in
-      put) past))
+      e ∙ (ap (λ (t : Term). map (in_both (substituted (put_for put.variable put.op.now.result t)))
+      (map statement_of point.hypotheses.items))
+      put_term
+      ∙ sym (behind_fixed (proving_in proving) (case_in point) put.variable put.op.now.result (numbered_in put) past))

@@ -39,17 +39,20 @@ module _ {A X L : Type 0} (ComesTo : X → L → List X → Type 0) (IsWrong : X
       → ComesTo (view x) line (map view parts) → reverse new ≡ parts ++ reverse popped
       → LinesReach ComesTo (map view (reverse old)) (line ∷ []) (map view (reverse new))
   next_reach old popped new parts x line top comes after =
-      subst (λ (xs : List X). LinesReach ComesTo xs (line ∷ []) (map view (reverse new))) (sym (ap (map view) (stack_top popped old x top)))
-      (subst (λ (ys : List X). LinesReach ComesTo (view x ∷ map view (reverse popped)) (line ∷ []) ys) (sym (ap (map view) after ∙
-      map-append view parts (reverse popped))) (line_first comes no_line))
+      subst (λ (xs : List X). LinesReach ComesTo xs (line ∷ []) (map view (reverse new)))
+      (sym (ap (map view) (stack_top popped old x top)))
+      (subst (λ (ys : List X). LinesReach ComesTo (view x ∷ map view (reverse popped)) (line ∷ []) ys)
+      (sym (ap (map view) after ∙ map-append view parts (reverse popped)))
+      (line_first comes no_line))
 
   pub next_wrong : (old popped : List A) (x : A) (line : L) (fault : LineFault) → old ≡ popped ++ x ∷ []
       → HoldsOfLineFault (IsWrong (view x) line) fault → (rest : List L)
       → HoldsOfLineFault (FailsToDeal ComesTo IsWrong bad_line (map view (reverse old)) (line ∷ rest) 0) fault
   next_wrong old popped x line fault top wrong rest =
-      fault_more (IsWrong (view x) line) (FailsToDeal ComesTo IsWrong bad_line (map view (reverse old)) (line ∷ rest) 0) (λ told h. subst (λ
-      (xs : List X). FailsToDeal ComesTo IsWrong bad_line xs (line ∷ rest) 0 told) (sym (ap (map view) (stack_top popped old x top)))
-      (line_wrong h)) fault wrong
+      fault_more (IsWrong (view x) line) (FailsToDeal ComesTo IsWrong bad_line (map view (reverse old)) (line ∷ rest) 0)
+      (λ told h. subst (λ (xs : List X). FailsToDeal ComesTo IsWrong bad_line xs (line ∷ rest) 0 told)
+      (sym (ap (map view) (stack_top popped old x top))) (line_wrong h))
+      fault wrong
 
   pub next_surplus : (old : List A) (line : L) → old ≡ [] → (rest : List L)
       → FailsToDeal ComesTo IsWrong bad_line (map view (reverse old)) (line ∷ rest) 0 bad_line
@@ -78,7 +81,8 @@ module _ {C X L : Type 0} (ComesTo : X → L → List X → Type 0) (IsWrong : X
     (first : List X) (all : List C) where
   pub deal_begins : (left : List X) → left ≡ first → DealSoFar ComesTo IsWrong view first all 0 left
   deal_begins left e =
-      subst (λ (xs : List X). DealSoFar ComesTo IsWrong view first all 0 xs) (sym e) (record {
+      subst (λ (xs : List X). DealSoFar ComesTo IsWrong view first all 0 xs) (sym e)
+      (record {
         deals = λ d. d;
         fails = λ k fault f.
             let same : k ≡ 0 + k = omega arith in
@@ -93,8 +97,10 @@ module _ {C X L : Type 0} (ComesTo : X → L → List X → Type 0) (IsWrong : X
         (reach_then_deal (map view (drop (n + 1) all)) reach d));
     fails = λ k fault f.
         let e : n + (1 + k) ≡ (n + 1) + k = omega arith in
-        subst (λ (j : ℕ). FailsToDeal ComesTo IsWrong bad_line first (map view all) j fault) e (so_far.fails (1 + k) fault (subst (λ (cs :
-        List C). FailsToDeal ComesTo IsWrong bad_line left (map view cs) (1 + k) fault) (sym (next_member all n c within is))
+        subst (λ (j : ℕ). FailsToDeal ComesTo IsWrong bad_line first (map view all) j fault) e
+        (so_far.fails (1 + k) fault
+        (subst (λ (cs : List C). FailsToDeal ComesTo IsWrong bad_line left (map view cs) (1 + k) fault)
+        (sym (next_member all n c within is))
         (reach_then_fail (map view (drop (n + 1) all)) k fault reach f)));
   }
 
@@ -110,13 +116,16 @@ module _ {C X L : Type 0} (ComesTo : X → L → List X → Type 0) (IsWrong : X
       → line ≡ begin + n → DealSoFar ComesTo IsWrong view first all n left
       → HoldsOfLineFault (FromLine begin (FailsToDeal ComesTo IsWrong bad_line first (map view all)) line) fault
   deal_wrong n begin line left c fault within is wrong at so_far =
-      fault_more (FailsToDeal ComesTo IsWrong bad_line left (view c ∷ map view (drop (n + 1) all)) 0) (FromLine begin (FailsToDeal ComesTo
-      IsWrong bad_line first (map view all)) line) (λ told f. (
+      fault_more (FailsToDeal ComesTo IsWrong bad_line left (view c ∷ map view (drop (n + 1) all)) 0)
+      (FromLine begin (FailsToDeal ComesTo IsWrong bad_line first (map view all)) line)
+      (λ told f. (
         n,
-        subst (λ (j : ℕ). FailsToDeal ComesTo IsWrong bad_line first (map view all) j told) same (so_far.fails 0 told (subst (λ (cs : List
-            C). FailsToDeal ComesTo IsWrong bad_line left (map view cs) 0 told) (sym (next_member all n c within is)) f)),
+        subst (λ (j : ℕ). FailsToDeal ComesTo IsWrong bad_line first (map view all) j told) same
+            (so_far.fails 0 told (subst (λ (cs : List C). FailsToDeal ComesTo IsWrong bad_line left (map view cs) 0 told)
+            (sym (next_member all n c within is)) f)),
         at,
-      )) fault (wrong (map view (drop (n + 1) all)))
+      ))
+      fault (wrong (map view (drop (n + 1) all)))
     where
       same : n + 0 ≡ n
       same = omega arith
@@ -127,9 +136,11 @@ module _ {C X L : Type 0} (ComesTo : X → L → List X → Type 0) (IsWrong : X
       → FromLine begin (FailsToDeal ComesTo IsWrong bad_line first (map view all)) line bad_line
   deal_missing n begin line left rest x past some at so_far = (
     n,
-    subst (λ (j : ℕ). FailsToDeal ComesTo IsWrong bad_line first (map view all) j bad_line) same (so_far.fails 0 bad_line (subst (λ (cs :
-        List C). FailsToDeal ComesTo IsWrong bad_line left (map view cs) 0 bad_line) (sym (drop_of_length-le all past)) (subst (λ (xs : List
-        X). FailsToDeal ComesTo IsWrong bad_line xs [] 0 bad_line) (sym some) (line_missing refl)))),
+    subst (λ (j : ℕ). FailsToDeal ComesTo IsWrong bad_line first (map view all) j bad_line) same
+        (so_far.fails 0 bad_line
+        (subst (λ (cs : List C). FailsToDeal ComesTo IsWrong bad_line left (map view cs) 0 bad_line)
+        (sym (drop_of_length-le all past))
+        (subst (λ (xs : List X). FailsToDeal ComesTo IsWrong bad_line xs [] 0 bad_line) (sym some) (line_missing refl)))),
     at,
   )
     where
@@ -178,14 +189,18 @@ module _ {C X : Type 0} (IsRight : List X → X → Type 0) (IsWrong : List X �
       → more ≡ line + length_of (view c) → RightSoFar IsRight IsWrong length_of view begin all n line
       → RightSoFar IsRight IsWrong length_of view begin all (n + 1) more
   things_go_on n line more c within is right at so_far = record {
-    right = λ r. so_far.right (subst (λ (cs : List C). AreRightBehind IsRight (map view (take n all)) (map view cs)) (sym (next_member all n
-        c within is)) (right_then right (subst (λ (xs : List X). AreRightBehind IsRight xs (map view (drop (n + 1) all))) (one_more n c
-        within is) r)));
-    wrong = λ line_there fault w. so_far.wrong line_there fault (subst (λ (cs : List C). FirstIsWrong IsRight IsWrong length_of line (map
-        view (take n all)) (map view cs) line_there fault) (sym (next_member all n c within is)) (wrong_later right (subst (λ (k : ℕ).
-        FirstIsWrong IsRight IsWrong length_of k (map view (take n all) ++ view c ∷ []) (map view (drop (n + 1) all)) line_there fault) at
-        (subst (λ (xs : List X). FirstIsWrong IsRight IsWrong length_of more xs (map view (drop (n + 1) all)) line_there fault) (one_more n
-        c within is) w))));
+    right = λ r. so_far.right
+        (subst (λ (cs : List C). AreRightBehind IsRight (map view (take n all)) (map view cs)) (sym (next_member all n c within is))
+        (right_then right
+        (subst (λ (xs : List X). AreRightBehind IsRight xs (map view (drop (n + 1) all))) (one_more n c within is) r)));
+    wrong = λ line_there fault w. so_far.wrong line_there fault
+        (subst (λ (cs : List C). FirstIsWrong IsRight IsWrong length_of line (map view (take n all)) (map view cs) line_there fault)
+        (sym (next_member all n c within is))
+        (wrong_later right
+        (subst (λ (k : ℕ). FirstIsWrong IsRight IsWrong length_of k (map view (take n all) ++ view c ∷ [])
+        (map view (drop (n + 1) all)) line_there fault) at
+        (subst (λ (xs : List X). FirstIsWrong IsRight IsWrong length_of more xs (map view (drop (n + 1) all)) line_there fault)
+        (one_more n c within is) w))));
   }
 
   pub things_end : (n line : ℕ) → length all ≤ n → RightSoFar IsRight IsWrong length_of view begin all n line
@@ -199,6 +214,9 @@ module _ {C X : Type 0} (IsRight : List X → X → Type 0) (IsWrong : List X �
       → RightSoFar IsRight IsWrong length_of view begin all n line
       → HoldsOfLineFault (FirstIsWrong IsRight IsWrong length_of begin [] (map view all) at) fault
   thing_wrong n line at c fault within is wrong so_far =
-      fault_more (FromLine line (IsWrong (map view (take n all)) (view c)) at) (FirstIsWrong IsRight IsWrong length_of begin [] (map view
-      all) at) (λ told h. so_far.wrong at told (subst (λ (cs : List C). FirstIsWrong IsRight IsWrong length_of line (map view (take n all))
-      (map view cs) at told) (sym (next_member all n c within is)) (wrong_here h.0 h.1 h.2))) fault wrong
+      fault_more (FromLine line (IsWrong (map view (take n all)) (view c)) at)
+      (FirstIsWrong IsRight IsWrong length_of begin [] (map view all) at)
+      (λ told h. so_far.wrong at told
+      (subst (λ (cs : List C). FirstIsWrong IsRight IsWrong length_of line (map view (take n all)) (map view cs) at told)
+      (sym (next_member all n c within is)) (wrong_here h.0 h.1 h.2)))
+      fault wrong

@@ -124,8 +124,9 @@ renamed_listed sorts seen n (profiled_node f operation ts) e = absurd (cc e)
 listed_renamed : (sorts : List ℕ) (seen : List (ℕ × ℕ)) (n : ℕ) (u : ProfiledTerm) (m s : ℕ) → u ≡ profiled_variable m s
     → slice_get sorts n ≡ Some s → is_seen seen m s ≡ false → is_renamed sorts seen (n, u) ≡ true
 listed_renamed sorts seen n u m s same listed fresh =
-    subst (λ (v : ProfiledTerm). is_renamed sorts seen (n, v) ≡ true) (sym same) (passes (is_listed_sort (slice_get sorts n) s) (not
-    (is_seen seen m s)) (is_sorted (slice_get sorts n) s listed) (not_from_false (is_seen seen m s) fresh))
+    subst (λ (v : ProfiledTerm). is_renamed sorts seen (n, v) ≡ true) (sym same)
+    (passes (is_listed_sort (slice_get sorts n) s) (not (is_seen seen m s)) (is_sorted (slice_get sorts n) s listed)
+    (not_from_false (is_seen seen m s) fresh))
 
 pair_parts : (pair : ℕ × ProfiledTerm) (n : ℕ) (u : ProfiledTerm) → Some pair ≡ Some (n, u) → (pair.0 ≡ n) × (pair.1 ≡ u)
 pair_parts pair n u e =
@@ -205,11 +206,15 @@ listed_tests sorts seen ((h, v) ∷ pairs) are =
     let first = are.each zero h v refl in
     let there : Some (h, v) ≡ Some (h, profiled_variable first.number first.sort) = λ i. Some (h, first.is i) in
     let begun : seen_with seen v ≡ seen ++ (first.number, first.sort) ∷ [] = ap (seen_with seen) first.is in
-    passes (is_renamed sorts seen (h, v)) (are_renamed sorts (seen_with seen v) pairs) (listed_renamed sorts seen h v first.number
-    first.sort first.is first.listed (are.fresh zero h first.number first.sort there)) (listed_tests sorts (seen_with seen v) pairs (record {
+    passes (is_renamed sorts seen (h, v)) (are_renamed sorts (seen_with seen v) pairs)
+    (listed_renamed sorts seen h v first.number first.sort first.is first.listed
+    (are.fresh zero h first.number first.sort there))
+    (listed_tests sorts (seen_with seen v) pairs (record {
       each = λ i n u at. are.each (suc i) n u at;
-      fresh = λ i n m s at. subst (λ (known : List (ℕ × ℕ)). is_seen known m s ≡ false) (sym begun) (seen_more seen first.number first.sort
-          m s (are.fresh (suc i) n m s at) (λ number sort.
+      fresh = λ i n m s at.
+          subst (λ (known : List (ℕ × ℕ)). is_seen known m s ≡ false) (sym begun)
+          (seen_more seen first.number first.sort m s (are.fresh (suc i) n m s at)
+          (λ number sort.
           let here : Some (h, v) ≡ Some (h, profiled_variable m s) = there ∙ (λ j. Some (h, profiled_variable (number j) (sort j))) in
           let clash : zero ≡ suc i = are.apart zero (suc i) h n m s here at in
           cc clash));
@@ -338,7 +343,9 @@ module _ (sorts : List ℕ) (l r t u : ProfiledTerm) where
             bound_there pairs n s pair.0 distinct pair.1 ∙ ap bare there.is ∙ ap (λ (q : ℕ). variable there.number q) sort in
             let same : number n s ≡ there.number = ap number_of value in (
               pair.1.0,
-              pair.1.1 ∙ (λ i. Some (n, there.is i)) ∙ (λ i. Some (n, profiled_variable (sym same i) (sort i))),
+              pair.1.1
+                  ∙ (λ i. Some (n, there.is i))
+                  ∙ (λ i. Some (n, profiled_variable (sym same i) (sort i))),
               value ∙ ap (λ (q : ℕ). variable q s) (sym same),
             )
 
@@ -353,7 +360,8 @@ module _ (sorts : List ℕ) (l r t u : ProfiledTerm) where
               let first = at_variable n s (in_whole n s o) in
               let second = at_variable m s (in_whole m s p) in
               let place : first.0 ≡ second.0 =
-              are.apart first.0 second.0 n m (number n s) s first.1 (second.1 ∙ (λ i. Some (m, profiled_variable (sym same i) s))) in
+              are.apart first.0 second.0 n m (number n s) s first.1
+              (second.1 ∙ (λ i. Some (m, profiled_variable (sym same i) s))) in
               let both : Some (n, profiled_variable (number n s) s) ≡ Some (m, profiled_variable (number m s) s) =
               sym first.1 ∙ ap (λ (i : ℕ). slice_get pairs i) place ∙ second.1 in
               (pair_parts (n, profiled_variable (number n s) s) m (profiled_variable (number m s) s) both).0;
@@ -370,8 +378,9 @@ module _ (sorts : List ℕ) (l r t u : ProfiledTerm) where
 
         value_there : (n s : ℕ) (v : ProfiledTerm) → Occurs n s whole → IsPair pairs n v → v ≡ profiled_variable (same.number n s) s
         value_there n s v o at =
-            bare_is v (same.number n s) s (sym (bound_there pairs n s v distinct at) ∙ values_same (binding (bare_pairs pairs)) (renaming
-            same.number) whole (matched.makes ∙ sym sides) n s o)
+            bare_is v (same.number n s) s
+            (sym (bound_there pairs n s v distinct at)
+            ∙ values_same (binding (bare_pairs pairs)) (renaming same.number) whole (matched.makes ∙ sym sides) n s o)
 
         pairs_listed : AreListed sorts [] pairs
         pairs_listed = record {

@@ -59,9 +59,10 @@ module _ (setting : Setting) (proving : Proving) (point : Case) (n number : ℕ)
     pub made_part : case_in part ≡ case_with (theory_in setting data_ canon) (proving_in proving) (case_in point) n op.result
         (record { number = number; operation = operation_of op })
     made_part =
-        part_is (theory_in setting data_ canon) (proving_in proving) point part n (record { number = number; operation = operation_of op })
-        term with_term sorts gone hypotheses (operation_sort number (length point.sorts.items) (operation_of op) term is) (operation_term
-        number (length point.sorts.items) (operation_of op) term is) put goal
+        part_is (theory_in setting data_ canon) (proving_in proving) point part n
+        (record { number = number; operation = operation_of op }) term with_term sorts gone hypotheses
+        (operation_sort number (length point.sorts.items) (operation_of op) term is)
+        (operation_term number (length point.sorts.items) (operation_of op) term is) put goal
 
     pub made_part_for : (o : Operation) → IsOperation (setting_signature setting) number o
         → case_in part ≡ case_with (theory_in setting data_ canon) (proving_in proving) (case_in point) n o.result

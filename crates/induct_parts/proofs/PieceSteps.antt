@@ -40,14 +40,18 @@ pub tree_wrong : (theory : Theory) (covers : List Cover) (earlier : List Pattern
     (IsWrongAtPattern theory.rules covers) bad_line (first ∷ []) lines) line) fault
     → HoldsOfLineFault (FromLine begin (IsWrongTree theory covers earlier tree) line) fault
 tree_wrong theory covers earlier tree first lines o begin line fault none is at same wrong =
-    fault_more (FromLine (begin + 1) (FailsToDeal (PatternComesTo theory.data_.signature theory.rules covers) (IsWrongAtPattern theory.rules
-    covers) bad_line (first ∷ []) lines) line) (FromLine begin (IsWrongTree theory covers earlier tree) line) (λ told h.
+    fault_more
+    (FromLine (begin + 1) (FailsToDeal (PatternComesTo theory.data_.signature theory.rules covers) (IsWrongAtPattern theory.rules covers)
+    bad_line (first ∷ []) lines) line)
+    (FromLine begin (IsWrongTree theory covers earlier tree) line)
+    (λ told h.
     let place = h.2 in
     let here : line ≡ begin + suc h.0 = omega (arith, place) in (
       suc h.0,
       inr (none, (o, h.0, at, fails told h.0 h.1, refl)),
       here,
-    )) fault wrong
+    ))
+    fault wrong
   where
     fails : (told : InductionFault) (k : ℕ)
         → FailsToDeal (PatternComesTo theory.data_.signature theory.rules covers) (IsWrongAtPattern theory.rules covers) bad_line
@@ -55,9 +59,10 @@ tree_wrong theory covers earlier tree first lines o begin line fault none is at 
         → FailsToDeal (PatternComesTo theory.data_.signature theory.rules covers) (IsWrongAtPattern theory.rules covers) bad_line
         (first_pattern (record { number = tree.operation; operation = o }) ∷ []) tree.lines k told
     fails told k f =
-        subst (λ (p : Pattern). FailsToDeal (PatternComesTo theory.data_.signature theory.rules covers) (IsWrongAtPattern theory.rules
-        covers) bad_line (p ∷ []) tree.lines k told) (is o at) (subst (λ (ls : List TreeLine). FailsToDeal (PatternComesTo
-        theory.data_.signature theory.rules covers) (IsWrongAtPattern theory.rules covers) bad_line (first ∷ []) ls k told) same f)
+        subst (λ (p : Pattern). FailsToDeal (PatternComesTo theory.data_.signature theory.rules covers)
+        (IsWrongAtPattern theory.rules covers) bad_line (p ∷ []) tree.lines k told) (is o at)
+        (subst (λ (ls : List TreeLine). FailsToDeal (PatternComesTo theory.data_.signature theory.rules covers)
+        (IsWrongAtPattern theory.rules covers) bad_line (first ∷ []) ls k told) same f)
 
 -- a second tree of an operation is wrong at its first line
 pub second_tree : (theory : Theory) (covers : List Cover) (earlier : List PatternTree) (tree : PatternTree) (begin : ℕ)
@@ -83,18 +88,24 @@ pub lemma_wrong : (theory : Theory) (covers : List Cover) (earlier : List Lemma)
     (first ∷ []) lines) line) fault
     → HoldsOfLineFault (FromLine begin (IsWrongLemma theory covers earlier lemma) line) fault
 lemma_wrong theory covers earlier lemma proving first lines begin line fault is begins same wrong =
-    fault_more (FromLine (begin + 3) (FailsToDeal (CaseComesTo theory covers proving) (IsWrongAtCase theory covers proving) bad_line (first
-    ∷ []) lines) line) (FromLine begin (IsWrongLemma theory covers earlier lemma) line) (λ told h.
+    fault_more
+    (FromLine (begin + 3) (FailsToDeal (CaseComesTo theory covers proving) (IsWrongAtCase theory covers proving) bad_line (first ∷ [])
+    lines) line)
+    (FromLine begin (IsWrongLemma theory covers earlier lemma) line)
+    (λ told h.
     let place = h.2 in
     let here : line ≡ begin + (3 + h.0) = omega (arith, place) in
-    (3 + h.0, (h.0, fails told h.0 h.1, refl), here)) fault wrong
+    (3 + h.0, (h.0, fails told h.0 h.1, refl), here))
+    fault wrong
   where
     fails : (told : InductionFault) (k : ℕ)
         → FailsToDeal (CaseComesTo theory covers proving) (IsWrongAtCase theory covers proving) bad_line (first ∷ []) lines k told
         → FailsToDeal (CaseComesTo theory covers (proving_of earlier lemma)) (IsWrongAtCase theory covers (proving_of earlier lemma))
         bad_line (first_case theory lemma ∷ []) lemma.lines k told
     fails told k f =
-        subst (λ (p : Proving). FailsToDeal (CaseComesTo theory covers p) (IsWrongAtCase theory covers p) bad_line (first_case theory lemma
-        ∷ []) lemma.lines k told) is (subst (λ (c : Case). FailsToDeal (CaseComesTo theory covers proving) (IsWrongAtCase theory covers
-        proving) bad_line (c ∷ []) lemma.lines k told) begins (subst (λ (ls : List ProofLine). FailsToDeal (CaseComesTo theory covers
-        proving) (IsWrongAtCase theory covers proving) bad_line (first ∷ []) ls k told) same f))
+        subst (λ (p : Proving). FailsToDeal (CaseComesTo theory covers p) (IsWrongAtCase theory covers p) bad_line
+        (first_case theory lemma ∷ []) lemma.lines k told) is
+        (subst (λ (c : Case). FailsToDeal (CaseComesTo theory covers proving) (IsWrongAtCase theory covers proving) bad_line (c ∷ [])
+        lemma.lines k told) begins
+        (subst (λ (ls : List ProofLine). FailsToDeal (CaseComesTo theory covers proving) (IsWrongAtCase theory covers proving) bad_line
+        (first ∷ []) ls k told) same f))

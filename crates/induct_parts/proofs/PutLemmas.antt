@@ -54,8 +54,9 @@ pub put_over : (signature : Signature) (number : ℕ) (term whole : Sorted) (pai
     → ((n s : ℕ) → Occurs n s (term_in whole) → IsSort signature s)
     → IsOf signature (profiled_instance (profiled_binding (profiled_pairs pairs)) (profiled_in whole))
 put_over signature number term whole pairs are over put known =
-    instance_of signature (profiled_binding (profiled_pairs pairs)) (profiled_in whole) over (λ n s o. subst (λ (ps : List (ℕ ×
-    ProfiledTerm)). IsOf signature (profiled_binding ps n s)) (sym are) (go n s o (nat_eq number n)))
+    instance_of signature (profiled_binding (profiled_pairs pairs)) (profiled_in whole) over
+    (λ n s o. subst (λ (ps : List (ℕ × ProfiledTerm)). IsOf signature (profiled_binding ps n s)) (sym are)
+    (go n s o (nat_eq number n)))
   where
     go : (n s : ℕ) → Occurs n s (term_in whole) → (b : Bool) → IsOf signature (if b then profiled_in term else profiled_variable n s)
     go n s o true = put

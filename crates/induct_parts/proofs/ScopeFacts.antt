@@ -15,7 +15,8 @@ use Rattle.induct_parts.specs.declared.cases.Case.{Case}
 pub in_scope : (point : Case) (sorts : List ℕ) (n sort : ℕ) → sorts ≡ point.sorts.items → n < length sorts → sort ≡ get_or sorts n sort
     → is_listed point.gone.items n ≡ false → IsInScope (case_in point) n sort
 in_scope point sorts n sort are within is none = (
-  ap (λ (ss : List ℕ). slice_get ss n) (sym are) ∙ (slice_get-get_or sorts n sort within ∙ ap (λ (s : ℕ). Some s) (sym is)),
+  ap (λ (ss : List ℕ). slice_get ss n) (sym are)
+      ∙ (slice_get-get_or sorts n sort within ∙ ap (λ (s : ℕ). Some s) (sym is)),
   none,
 )
 

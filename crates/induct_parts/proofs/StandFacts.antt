@@ -59,7 +59,8 @@ pub variable_stands_right : (proving : Proving) (source : Source) (number : ℕ)
 variable_stands_right proving source number term other s stands_ is = (
   (λ e itself. (
     s,
-    ap (λ (t : Term). profiled_of t) is ∙ (profiled_Var other s ∙ ap (λ (k : ℕ). profiled_variable k s) ((Decides-eqb other number).0 e)),
+    ap (λ (t : Term). profiled_of t) is
+        ∙ (profiled_Var other s ∙ ap (λ (k : ℕ). profiled_variable k s) ((Decides-eqb other number).0 e)),
   )),
   (λ h.
       let has = h ((stands_decided proving source number).0 stands_) in

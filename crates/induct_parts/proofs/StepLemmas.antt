@@ -23,9 +23,11 @@ module _ {A Y : Type 0} (makes : ℕ → List A → List Y) (one : ℕ → A →
       → n < length all → x ≡ get_or all n x → more ≡ made ++ one n x → IsMadeSoFar makes all whole n made
       → IsMadeSoFar makes all whole (n + 1) more
   one_more first n x made more within is added so_far =
-      ap (λ (ys : List Y). ys ++ makes (n + 1) (drop (n + 1) all)) added ∙ (append_assoc made (one n x) (makes (n + 1) (drop (n + 1) all)) ∙
-      (ap (λ (k : ℕ). made ++ (one n x ++ makes k (drop (n + 1) all))) on ∙ (ap (λ (ys : List Y). made ++ ys) (sym (ap (makes n)
-      (next_member all n x within is) ∙ first n x (drop (n + 1) all))) ∙ so_far)))
+      ap (λ (ys : List Y). ys ++ makes (n + 1) (drop (n + 1) all)) added
+      ∙ (append_assoc made (one n x) (makes (n + 1) (drop (n + 1) all))
+      ∙ (ap (λ (k : ℕ). made ++ (one n x ++ makes k (drop (n + 1) all))) on
+      ∙ (ap (λ (ys : List Y). made ++ ys) (sym (ap (makes n) (next_member all n x within is) ∙ first n x (drop (n + 1) all)))
+      ∙ so_far)))
     where
       on : n + 1 ≡ suc n
       on = omega arith
@@ -33,7 +35,8 @@ module _ {A Y : Type 0} (makes : ℕ → List A → List Y) (one : ℕ → A →
   pub all_made : ((n : ℕ) → makes n [] ≡ []) → (n : ℕ) (made : List Y) → length all ≤ n → IsMadeSoFar makes all whole n made
       → made ≡ whole
   all_made none n made past so_far =
-      sym (append-nil made) ∙ (ap (λ (ys : List Y). made ++ ys) (sym (ap (makes n) (drop_of_length-le all past) ∙ none n)) ∙ so_far)
+      sym (append-nil made)
+      ∙ (ap (λ (ys : List Y). made ++ ys) (sym (ap (makes n) (drop_of_length-le all past) ∙ none n)) ∙ so_far)
 
 -- ---- what is added where a test holds, or where it does not
 
@@ -88,9 +91,11 @@ hypothesis_first goal n s next i r rs =
     on = omega arith
 
     go : (b : Bool)
-        → (if b then in_both (substituted (put_for n s (variable (next + i) s))) goal ∷ hypotheses_for goal n s (suc (next + i)) rs else
-        hypotheses_for goal n s (suc (next + i)) rs) ≡ (if b then in_both (substituted (put_for n s (variable (next + i) s))) goal ∷ [] else
-        []) ++ hypotheses_for goal n s (suc (next + i)) rs
+        → (if b
+        then in_both (substituted (put_for n s (variable (next + i) s))) goal ∷ hypotheses_for goal n s (suc (next + i)) rs
+        else hypotheses_for goal n s (suc (next + i)) rs)
+        ≡ (if b then in_both (substituted (put_for n s (variable (next + i) s))) goal ∷ [] else [])
+        ++ hypotheses_for goal n s (suc (next + i)) rs
     go true = refl
     go false = refl
 

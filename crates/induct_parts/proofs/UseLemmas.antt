@@ -71,7 +71,8 @@ bare_variable (profiled_node f operation ts) n s e = absurd (cc e)
 
 -- ---- what is known of a statement, of the part at the path, and of the pairs that match them
 
-pub record IsMatchedPart (signature : Signature) (taken placed : Sorted) (part : ProfiledTerm) (pairs : List (ℕ × Sorted)) : Type 0 where
+pub record IsMatchedPart (signature : Signature) (taken placed : Sorted) (part : ProfiledTerm) (pairs : List (ℕ × Sorted))
+    : Type 0 where
   pub taken_over : IsOf signature (profiled_in taken)
   pub placed_over : IsOf signature (profiled_in placed)
   pub part_over : IsOf signature part

@@ -40,8 +40,9 @@ sides_sort : (signature : Signature) (statement : Statement) (sort : ℕ) → Is
     → HasSort signature (term_in statement.left) sort → HasSort signature (term_in statement.right) sort
     → statement.left.sort ≡ statement.right.sort
 sides_sort signature statement sort over left right =
-    one_sort signature (term_in statement.left) statement.left.sort sort (taken_sorted signature statement.left over.left) left ∙ sym
-    (one_sort signature (term_in statement.right) statement.right.sort sort (taken_sorted signature statement.right over.right) right)
+    one_sort signature (term_in statement.left) statement.left.sort sort (taken_sorted signature statement.left over.left) left
+    ∙ sym (one_sort signature (term_in statement.right) statement.right.sort sort
+    (taken_sorted signature statement.right over.right) right)
 
 -- the statement of the lemma with the number
 statement_there : (lemmas : List StatedLemma) (k : ℕ) (lemma : StatedLemma) → slice_get lemmas k ≡ Some lemma
@@ -86,8 +87,9 @@ hypothesis_source setting proving point k h known at = record {
 pub no_lemma : (proving : Proving) (point : Case) (k : ℕ) (statement : PlainStatement) → slice_get proving.earlier.now k ≡ None
     → ¬ IsOfSource (proving_in proving) (case_in point) (use_source_of (Lemma k)) statement
 no_lemma proving point k statement past there =
-    none_and_some (slice_get (statements_of (lemmas_in proving.earlier.now)) k) statement (past_map (λ (one : PlainLemma). one.statement)
-    (lemmas_in proving.earlier.now) k (past_map lemma_in proving.earlier.now k past)) there
+    none_and_some (slice_get (statements_of (lemmas_in proving.earlier.now)) k) statement
+    (past_map (λ (one : PlainLemma). one.statement) (lemmas_in proving.earlier.now) k (past_map lemma_in proving.earlier.now k past))
+    there
 
 pub no_hypothesis : (proving : Proving) (point : Case) (k : ℕ) (statement : PlainStatement) → slice_get point.hypotheses.items k ≡ None
     → ¬ IsOfSource (proving_in proving) (case_in point) (use_source_of (Hypothesis k)) statement
@@ -115,4 +117,5 @@ pairs_stand proving source pairs each n u (i, at) itself =
 pub each_stands : (proving : Proving) (source : Source) (pairs : List (ℕ × Sorted)) → PairsStand proving source pairs
     → Each (StandsRight proving source) pairs
 each_stands proving source pairs stand =
-    each_of (StandsRight proving source) pairs (λ i pair at itself. stand pair.0 (profiled_in pair.1) (pair_of_code pairs i pair at) itself)
+    each_of (StandsRight proving source) pairs
+    (λ i pair at itself. stand pair.0 (profiled_in pair.1) (pair_of_code pairs i pair at) itself)

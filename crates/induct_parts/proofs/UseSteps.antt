@@ -126,7 +126,8 @@ matched_part setting proving point use_ statement found part known source there 
       (side_over (setting_signature setting) use_.side point.goal known.goal) there;
   part_fits = subterm_fits use_.path.items (profiled_in (side_in use_.side point.goal)) part (side_in use_.side point.goal).fits there;
   part_sort = same;
-  one_sort = λ n r s o u. source.numbers n r s (taken_inside use_.direction statement n r o) (placed_inside use_.direction statement n s u);
+  one_sort = λ n r s o u.
+      source.numbers n r s (taken_inside use_.direction statement n r o) (placed_inside use_.direction statement n s u);
   matched = matched;
   distinct = found.distinct;
 }
@@ -195,24 +196,28 @@ pub replaced_used : (setting : Setting) (proving : Proving) (point : Case) (use_
 replaced_used setting proving point use_ statement found placed side new after path made known source is places_ side_is path_is instance
     put
     result data_ canon =
-    subst (IsUsed (theory_in setting data_ canon) (proving_in proving) (case_in point) (use_of use_)) (sym (made_is use_.side after made
-    point.goal result)) (use_made (theory_in setting data_ canon) (proving_in proving) (case_in point) (use_of use_) (statement_of
-    statement) (taken_in use_.direction statement) (placed_in use_.direction statement) is.part found.pairs.items (term_in after)
-    (part_of_match setting proving point use_ statement found known source is) source.is_there (takes use_.direction statement) (places
-    use_.direction statement) part_there (pairs_stand proving use_.source found.pairs.items is.stand) ((closes_decided (proving_in proving)
-    (use_source_of use_.source) (term_in (taken_in use_.direction statement)) (term_in (placed_in use_.direction statement))).0 is.closed)
+    subst (IsUsed (theory_in setting data_ canon) (proving_in proving) (case_in point) (use_of use_))
+    (sym (made_is use_.side after made point.goal result))
+    (use_made (theory_in setting data_ canon) (proving_in proving) (case_in point) (use_of use_) (statement_of statement)
+    (taken_in use_.direction statement) (placed_in use_.direction statement) is.part found.pairs.items (term_in after)
+    (part_of_match setting proving point use_ statement found known source is) source.is_there (takes use_.direction statement)
+    (places use_.direction statement) part_there (pairs_stand proving use_.source found.pairs.items is.stand)
+    ((closes_decided (proving_in proving) (use_source_of use_.source) (term_in (taken_in use_.direction statement))
+    (term_in (placed_in use_.direction statement))).0 is.closed)
     put_there)
   where
     part_there : subterm use_.path.items (side_at (use_side_of use_.side) (statement_of point.goal)) ≡ Some (bare is.part)
     part_there =
-        ap (subterm use_.path.items) (goal_side use_.side point.goal) ∙ (sym (subterm_bare use_.path.items (profiled_in (side_in use_.side
-        point.goal))) ∙ ap (option_map bare) is.is_there)
+        ap (subterm use_.path.items) (goal_side use_.side point.goal)
+        ∙ (sym (subterm_bare use_.path.items (profiled_in (side_in use_.side point.goal)))
+        ∙ ap (option_map bare) is.is_there)
 
     put_there : put_at use_.path.items (substituted (substitution_of found) (term_in (placed_in use_.direction statement)))
         (side_at (use_side_of use_.side) (statement_of point.goal)) ≡ Some (term_in after)
     put_there =
-        sym (λ i. put_at (path_is i) ((instance ∙ ap (λ (t : Sorted). substituted (substitution_of found) (term_in t)) places_) i) (((ap (λ
-        (t : Sorted). term_in t) side_is) ∙ sym (goal_side use_.side point.goal)) i)) ∙ put
+        sym (λ i. put_at (path_is i) ((instance ∙ ap (λ (t : Sorted). substituted (substitution_of found) (term_in t)) places_) i)
+        (((ap (λ (t : Sorted). term_in t) side_is) ∙ sym (goal_side use_.side point.goal)) i))
+        ∙ put
 
 pub replaced_over : (setting : Setting) (proving : Proving) (point : Case) (use_ : Use) (statement : Statement) (found : Subst)
     (placed side new after : Sorted) (path : List ℕ) (made : Statement) → IsKnownCase (setting_signature setting) proving.free point
@@ -239,11 +244,13 @@ replaced_over setting proving point use_ statement found placed side new after p
 
     new_over : IsOf (setting_signature setting) (profiled_in new)
     new_over =
-        subst (IsOf (setting_signature setting)) (sym (instance ∙ ap (λ (t : Sorted). profiled_instance (profiled_binding (profiled_pairs
-        found.pairs.items)) (profiled_in t)) places_)) (instance_of (setting_signature setting) (profiled_binding (profiled_pairs
-        found.pairs.items)) (profiled_in (placed_in use_.direction statement)) (placed_over (setting_signature setting) use_.direction
-        statement source.over) (λ n s o. placed_value_over (part_of_match setting proving point use_ statement found known source is) n s
-        o))
+        subst (IsOf (setting_signature setting))
+        (sym (instance ∙ ap (λ (t : Sorted). profiled_instance (profiled_binding (profiled_pairs found.pairs.items)) (profiled_in t))
+        places_))
+        (instance_of (setting_signature setting) (profiled_binding (profiled_pairs found.pairs.items))
+        (profiled_in (placed_in use_.direction statement))
+        (placed_over (setting_signature setting) use_.direction statement source.over)
+        (λ n s o. placed_value_over (part_of_match setting proving point use_ statement found known source is) n s o))
 
 -- ---- where the code finds nothing there is no use
 
@@ -252,9 +259,10 @@ pub no_part : (setting : Setting) (proving : Proving) (point : Case) (use_ : Use
     → (data_ : Data) (canon : Term → Term) (made : PlainStatement)
     → ¬ IsUsed (theory_in setting data_ canon) (proving_in proving) (case_in point) (use_of use_) made
 no_part setting proving point use_ side path side_is path_is none data_ canon made used =
-    none_and_some (subterm use_.path.items (side_at (use_side_of use_.side) (statement_of point.goal))) (substituted used.values (taken_side
-    (direction_of use_.direction) used.statement)) ((λ i. subterm (sym path_is i) ((goal_side use_.side point.goal ∙ sym (ap (λ (t :
-    Sorted). term_in t) side_is)) i)) ∙ sym none) used.old
+    none_and_some (subterm use_.path.items (side_at (use_side_of use_.side) (statement_of point.goal)))
+    (substituted used.values (taken_side (direction_of use_.direction) used.statement))
+    ((λ i. subterm (sym path_is i) ((goal_side use_.side point.goal ∙ sym (ap (λ (t : Sorted). term_in t) side_is)) i)) ∙ sym none)
+    used.old
 
 -- the part that stands at the path
 pub part_stands : (use_ : Use) (point : Case) (side part : Sorted) (path : List ℕ) → side ≡ side_in use_.side point.goal
@@ -272,8 +280,10 @@ part_told : (setting : Setting) (proving : Proving) (point : Case) (use_ : Use) 
     → UseTells (theory_in setting data_ canon) (proving_in proving) (use_of use_) (statement_of statement) (bare part)
 part_told setting proving point use_ statement part source there data_ canon made used =
     tells (theory_in setting data_ canon) (proving_in proving) (case_in point) (use_of use_) made (statement_of statement) (bare part)
-    source.is_there (ap (subterm use_.path.items) (goal_side use_.side point.goal) ∙ (sym (subterm_bare use_.path.items (profiled_in
-    (side_in use_.side point.goal))) ∙ ap (option_map bare) there)) used
+    source.is_there
+    (ap (subterm use_.path.items) (goal_side use_.side point.goal)
+    ∙ (sym (subterm_bare use_.path.items (profiled_in (side_in use_.side point.goal))) ∙ ap (option_map bare) there))
+    used
 
 pub no_match : (setting : Setting) (proving : Proving) (point : Case) (use_ : Use) (statement : Statement) (taken part : Sorted)
     → IsKnownCase (setting_signature setting) proving.free point → IsKnownSource setting proving point use_.source statement
@@ -284,12 +294,14 @@ pub no_match : (setting : Setting) (proving : Proving) (point : Case) (use_ : Us
     → ¬ IsUsed (theory_in setting data_ canon) (proving_in proving) (case_in point) (use_of use_) made
 no_match setting proving point use_ statement taken part known source takes_ there never data_ canon made used =
     let told = part_told setting proving point use_ statement (profiled_in part) source there data_ canon made used in
-    subst (λ (t : Sorted). ¬ HasMatch (profiled_in t) (profiled_in part)) takes_ never (told_match (setting_signature setting) (taken_in
-    use_.direction statement) (profiled_in part) told.values (taken_over (setting_signature setting) use_.direction statement source.over)
-    (subterm_of (setting_signature setting) use_.path.items (profiled_in (side_in use_.side point.goal)) (profiled_in part) (side_over
-    (setting_signature setting) use_.side point.goal known.goal) there) part.fits (subst (λ (t : Term). KeepsSorts (setting_signature
-    setting) t told.values) (takes use_.direction statement) told.sorted) (subst (λ (t : Term). substituted told.values t ≡ bare
-    (profiled_in part)) (takes use_.direction statement) told.old))
+    subst (λ (t : Sorted). ¬ HasMatch (profiled_in t) (profiled_in part)) takes_ never
+    (told_match (setting_signature setting) (taken_in use_.direction statement) (profiled_in part) told.values
+    (taken_over (setting_signature setting) use_.direction statement source.over)
+    (subterm_of (setting_signature setting) use_.path.items (profiled_in (side_in use_.side point.goal)) (profiled_in part)
+    (side_over (setting_signature setting) use_.side point.goal known.goal) there)
+    part.fits
+    (subst (λ (t : Term). KeepsSorts (setting_signature setting) t told.values) (takes use_.direction statement) told.sorted)
+    (subst (λ (t : Term). substituted told.values t ≡ bare (profiled_in part)) (takes use_.direction statement) told.old))
 
 pub no_standing : (setting : Setting) (proving : Proving) (point : Case) (use_ : Use) (statement : Statement) (found : Subst)
     (part : ProfiledTerm)
@@ -302,8 +314,9 @@ pub no_standing : (setting : Setting) (proving : Proving) (point : Case) (use_ :
     → ¬ IsUsed (theory_in setting data_ canon) (proving_in proving) (case_in point) (use_of use_) made
 no_standing setting proving point use_ statement found part is source there never data_ canon made used =
     let told = part_told setting proving point use_ statement part source there data_ canon made used in
-    never (each_stands proving use_.source found.pairs.items (told_stand is (proving_in proving) (use_source_of use_.source) told.values
-    told.fixed (subst (λ (t : Term). substituted told.values t ≡ bare part) (takes use_.direction statement) told.old)))
+    never (each_stands proving use_.source found.pairs.items
+    (told_stand is (proving_in proving) (use_source_of use_.source) told.values told.fixed
+    (subst (λ (t : Term). substituted told.values t ≡ bare part) (takes use_.direction statement) told.old)))
 
 pub not_closed : (setting : Setting) (proving : Proving) (point : Case) (use_ : Use) (statement : Statement) (part : ProfiledTerm)
     → IsKnownSource setting proving point use_.source statement

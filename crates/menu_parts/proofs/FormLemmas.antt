@@ -86,19 +86,22 @@ module _ (basis : Ground) (base : IsLawfulGround basis) where
 
   pub disable_made : (b c : Behaviour) (left right : Node) → stands_for left ≡ b → stands_for right ≡ c → IsClosedOn basis (disable b c)
       → IsMadeOfEither basis (stands_for left) (stands_for right) (disable b c)
-  disable_made b c left right e f closed = λ lefts rights exact other. makes.of_disable b c lefts rights (over_of basis (disable b c) base
-      closed) (exact_as basis b left lefts e exact) (exact_as basis c right rights f other)
+  disable_made b c left right e f closed = λ lefts rights exact other.
+      makes.of_disable b c lefts rights (over_of basis (disable b c) base closed) (exact_as basis b left lefts e exact)
+      (exact_as basis c right rights f other)
 
   pub parallel_made : (meet : SynchronisationSet) (b c : Behaviour) (left right : Node) → stands_for left ≡ b → stands_for right ≡ c
       → IsClosedOn basis (parallel meet b c)
       → IsMadeBeside basis meet (stands_for left) (stands_for right) (parallel meet b c)
-  parallel_made meet b c left right e f closed = λ lefts rights boths exact other solved. makes.of_parallel meet b c lefts rights boths
-      (over_of basis (parallel meet b c) base closed) (exact_as basis b left lefts e exact) (exact_as basis c right rights f other) solved
+  parallel_made meet b c left right e f closed = λ lefts rights boths exact other solved.
+      makes.of_parallel meet b c lefts rights boths (over_of basis (parallel meet b c) base closed) (exact_as basis b left lefts e exact)
+      (exact_as basis c right rights f other) solved
 
   pub let_made : (bindings : List (Variable × Term)) (b : Behaviour) (made : Node) → stands_for made ≡ let_body basis.canon bindings b
       → IsClosedOn basis (let_be bindings b) → (entries : List Entry) → IsExactOn basis (stands_for made) entries
       → IsExactOn basis (let_be bindings b) (all_by_rule (passing_on let_bound) entries)
-  let_made bindings b made e closed = λ entries exact. makes.of_let bindings b entries (over_of basis (let_be bindings b) base closed)
+  let_made bindings b made e closed = λ entries exact.
+      makes.of_let bindings b entries (over_of basis (let_be bindings b) base closed)
       (exact_as basis (let_body basis.canon bindings b) made entries e exact)
 
   -- ---- The part is the whole itself.
@@ -110,17 +113,19 @@ module _ (basis : Ground) (base : IsLawfulGround basis) where
       → stands_for made ≡ copies g gates meet b
       → IsClosedOn basis (par_gate g gates meet b) → (entries : List Entry) → IsExactOn basis (stands_for made) entries
       → IsExactOn basis (par_gate g gates meet b) (filter_map (λ (entry : Entry). Some entry) entries)
-  copies_made g gates meet b made e closed = λ entries exact. subst (IsExactOn basis (par_gate g gates meet b)) (sym (all_same entries))
-      (makes.of_gate_par g gates meet b entries (over_of basis (par_gate g gates meet b) base closed) (exact_as basis (copies g gates meet
-      b) made entries e exact))
+  copies_made g gates meet b made e closed = λ entries exact.
+      subst (IsExactOn basis (par_gate g gates meet b)) (sym (all_same entries))
+      (makes.of_gate_par g gates meet b entries (over_of basis (par_gate g gates meet b) base closed)
+      (exact_as basis (copies g gates meet b) made entries e exact))
 
   pub call_made : (number : ℕ) (gates : List ℕ) (arguments : List Term) (process : Process) (made : Node)
       → stands_for made ≡ called_body basis.canon process arguments
       → slice_get (specification_of basis.spec).processes number ≡ Some process
       → IsClosedOn basis (call number gates arguments) → (entries : List Entry) → IsExactOn basis (stands_for made) entries
       → IsExactOn basis (call number gates arguments) (call_menu (zip process.gates gates) entries)
-  call_made number gates arguments process made e at closed = λ entries exact. makes.of_call number gates arguments process entries (over_of
-      basis (call number gates arguments) base closed) at (exact_as basis (called_body basis.canon process arguments) made entries e exact)
+  call_made number gates arguments process made e at closed = λ entries exact.
+      makes.of_call number gates arguments process entries (over_of basis (call number gates arguments) base closed) at
+      (exact_as basis (called_body basis.canon process arguments) made entries e exact)
 
   -- ---- The copies of a gate `par` are closed.
   pub copies_closed : (g : ℕ) (gates : List ℕ) (meet : SynchronisationSet) (b : Behaviour) → IsClosedOn basis (par_gate g gates meet b)

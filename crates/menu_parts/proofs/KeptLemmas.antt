@@ -87,7 +87,8 @@ module _ (basis : Ground) where
       → AreBeside basis.data_ basis.canon meet (listed_for first).items.items (listed_for second).items.items items
       → IsExactOn basis whole (map plain_item items)
   beside_exact meet left right whole first second items form h k made =
-      subst (IsExactOn basis whole) (sym made.same) (form _ _ made.boths (exact_for left first h) (exact_for right second k) made.solved)
+      subst (IsExactOn basis whole) (sym made.same)
+      (form _ _ made.boths (exact_for left first h) (exact_for right second k) made.solved)
 
   -- the items of what is kept for a state are in order
   pub kept_over : (base : IsLawfulGround basis) (node : Node) (k : Kept) → IsPassableNode basis node → IsKeptFor basis node k

@@ -83,4 +83,5 @@ module _ (basis : Ground) (node : Node) (kept : Kept) (h : IsKeptFor basis node 
 
   pub menu_over : IsLawfulGround basis → IsPassableNode basis node → Every (IsEntryOver basis.data_.signature) (menu_entries menu)
   menu_over base passable =
-      entries_over basis (stands_for node) base passable.passable.closed (menu_entries menu) (menu_exact (stands_for node) refl) has.terms
+      entries_over basis (stands_for node) base passable.passable.closed (menu_entries menu) (menu_exact (stands_for node) refl)
+      has.terms

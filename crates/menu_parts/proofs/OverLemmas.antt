@@ -45,8 +45,9 @@ module _ (basis : Ground) (b : Behaviour) (base : IsLawfulGround basis) (closed 
       menu_of basis.data_ basis.canon (specification_of basis.spec) b entries exact in
       among_all (IsLeft basis.data_.signature) entries (λ e a.
       let f : IsSolvedForm basis.data_ basis.canon (specification_of basis.spec) b e.shape e = menu.sound e a in
-      ordered_entry basis.data_ basis.canon base.is_canon f.draft e (form_order basis.data_ basis.canon (specification_of basis.spec) b
-      e.shape f.draft (over_of basis b base closed) f.drafted) f.solves)
+      ordered_entry basis.data_ basis.canon base.is_canon f.draft e
+      (form_order basis.data_ basis.canon (specification_of basis.spec) b e.shape f.draft (over_of basis b base closed) f.drafted)
+      f.solves)
 
   pub items_over : (items : List Item) → IsExactOn basis b (map plain_item items) → Every (HasItemTerms basis.data_.signature) items
       → Every (IsItemOver basis.data_.signature) items
@@ -58,8 +59,10 @@ module _ (basis : Ground) (b : Behaviour) (base : IsLawfulGround basis) (closed 
   pub entries_over : (entries : List Entry) → IsExactOn basis b (map plain_entry entries)
       → Every (HasEntryTerms basis.data_.signature) entries → Every (IsEntryOver basis.data_.signature) entries
   entries_over entries exact terms =
-      both_all (λ (entry : Entry). IsLeft basis.data_.signature (plain_entry entry)) (HasEntryTerms basis.data_.signature) (IsEntryOver
-      basis.data_.signature) entries (λ entry h k. record {
+      both_all (λ (entry : Entry). IsLeft basis.data_.signature (plain_entry entry)) (HasEntryTerms basis.data_.signature)
+      (IsEntryOver basis.data_.signature) entries
+      (λ entry h k. record {
         entry_of = record { order = h.0; values = k.values; leaves = k.leaves; conditions = k.conditions };
         as_draft = h.1;
-      }) (mapped_all plain_entry (IsLeft basis.data_.signature) entries (all_left (map plain_entry entries) exact)) terms
+      })
+      (mapped_all plain_entry (IsLeft basis.data_.signature) entries (all_left (map plain_entry entries) exact)) terms

@@ -42,10 +42,12 @@ kept_items basis way h (spread.Side' _ kept own part) k = k.1.same
 kept_items basis way h (spread.Under' pairs _ part) k =
     kept_items basis (λ entries. way (relabel_menu pairs.items entries)) (by_rule_splits (under_rule relabelled pairs.items) way h) part k.1
 kept_items basis way h (spread.Both' _ left _ right part) k =
-    map-append plain_item (spread_items left) (spread_items right) ∙ (ap (λ (xs : List Entry). xs ++ map plain_item (spread_items right))
-    (kept_items basis (λ entries. way (of_left entries)) (by_rule_splits (alone_rule no_gates left_side) way h) left k.0) ∙ (ap (λ (xs :
-    List Entry). way (of_left (spread_menu left)) ++ xs) (kept_items basis (λ entries. way (of_right entries)) (by_rule_splits (alone_rule
-    no_gates right_side) way h) right k.1) ∙ sym (parallel_splits way h (spread_menu left) (spread_menu right))))
+    map-append plain_item (spread_items left) (spread_items right)
+    ∙ (ap (λ (xs : List Entry). xs ++ map plain_item (spread_items right))
+    (kept_items basis (λ entries. way (of_left entries)) (by_rule_splits (alone_rule no_gates left_side) way h) left k.0)
+    ∙ (ap (λ (xs : List Entry). way (of_left (spread_menu left)) ++ xs)
+    (kept_items basis (λ entries. way (of_right entries)) (by_rule_splits (alone_rule no_gates right_side) way h) right k.1)
+    ∙ sym (parallel_splits way h (spread_menu left) (spread_menu right))))
 
 -- their terms are of the signature
 pub kept_item_terms : (basis : Ground) (way : List Entry → List Entry) (s : Spread) → AreKeptBelow basis way s
@@ -54,8 +56,9 @@ kept_item_terms basis way (spread.Side' _ kept own part) k = k.1.terms
 kept_item_terms basis way (spread.Under' pairs _ part) k =
     kept_item_terms basis (λ entries. way (relabel_menu pairs.items entries)) part k.1
 kept_item_terms basis way (spread.Both' _ left _ right part) k =
-    Every-append (HasItemTerms basis.data_.signature) (spread_items left) (spread_items right) (kept_item_terms basis (λ entries. way
-    (of_left entries)) left k.0) (kept_item_terms basis (λ entries. way (of_right entries)) right k.1)
+    Every-append (HasItemTerms basis.data_.signature) (spread_items left) (spread_items right)
+    (kept_item_terms basis (λ entries. way (of_left entries)) left k.0)
+    (kept_item_terms basis (λ entries. way (of_right entries)) right k.1)
 
 -- what menus share of them has the same entries
 pub kept_part : (basis : Ground) (way : List Entry → List Entry) (s : Spread) → AreKeptBelow basis way s
@@ -90,10 +93,12 @@ has_both first second one other p q part made a b c d e same = record {
   kept = λ basis way h k. subst (AreKeptBelow basis way) (sym e) (
     h,
     k,
-    joined_entries basis.data_.signature (spread_items first.value) (spread_items second.value) (part_entries (part_for first.value))
-        (part_entries (part_for second.value)) (part_entries part) (same ∙ (ap (λ (x : MenuPart). part_entries x ++ part_entries q) (c ∙ ap
-        part_for a) ∙ ap (λ (x : MenuPart). part_entries (part_for first.value) ++ part_entries x) (d ∙ ap part_for b))) (kept_part basis (λ
-        entries. way (of_left entries)) first.value h) (kept_part basis (λ entries. way (of_right entries)) second.value k),
+    joined_entries basis.data_.signature (spread_items first.value) (spread_items second.value)
+        (part_entries (part_for first.value)) (part_entries (part_for second.value)) (part_entries part)
+        (same ∙ (ap (λ (x : MenuPart). part_entries x ++ part_entries q) (c ∙ ap part_for a)
+        ∙ ap (λ (x : MenuPart). part_entries (part_for first.value) ++ part_entries x) (d ∙ ap part_for b)))
+        (kept_part basis (λ entries. way (of_left entries)) first.value h)
+        (kept_part basis (λ entries. way (of_right entries)) second.value k),
   );
   menu = ap spread_menu e;
 }
@@ -169,16 +174,18 @@ pub kept_up : (basis : Ground) (way : List Entry → List Entry) (k : Kept) (giv
     → ((signature : Signature) → Every (HasItemTerms signature) given.items → AreByWay signature way given.items made)
     → AreByWay basis.data_.signature way (listed_for k).items.items made
 kept_up basis way k given made e h all =
-    subst (λ (v : Vec Item Global). AreByWay basis.data_.signature way v.items made) e (all basis.data_.signature (subst (λ (v : Vec Item
-    Global). Every (HasItemTerms basis.data_.signature) v.items) (sym e) (root_listed basis k h).terms))
+    subst (λ (v : Vec Item Global). AreByWay basis.data_.signature way v.items made) e
+    (all basis.data_.signature
+    (subst (λ (v : Vec Item Global). Every (HasItemTerms basis.data_.signature) v.items) (sym e) (root_listed basis k h).terms))
 
 pub kept_rule : (basis : Ground) (rule : Entry → Option Entry) (k : Kept) (given : Vec Item Global) (made : List Item)
     → given ≡ (listed_for k).items → IsKept basis k
     → ((signature : Signature) → Every (HasItemTerms signature) given.items → AreEntriesMadeBy signature rule given.items made)
     → AreEntriesMadeBy basis.data_.signature rule (listed_for k).items.items made
 kept_rule basis rule k given made e h all =
-    subst (λ (v : Vec Item Global). AreEntriesMadeBy basis.data_.signature rule v.items made) e (all basis.data_.signature (subst (λ (v :
-    Vec Item Global). Every (HasItemTerms basis.data_.signature) v.items) (sym e) (root_listed basis k h).terms))
+    subst (λ (v : Vec Item Global). AreEntriesMadeBy basis.data_.signature rule v.items made) e
+    (all basis.data_.signature
+    (subst (λ (v : Vec Item Global). Every (HasItemTerms basis.data_.signature) v.items) (sym e) (root_listed basis k h).terms))
 
 pub kept_order : (basis : Ground) (base : IsLawfulGround basis) (b : Behaviour) (k : Kept) (given : Vec Item Global)
     → given ≡ (listed_for k).items
@@ -193,8 +200,9 @@ module _ (basis : Ground) (way : List Entry → List Entry) (o : Option (Bor (Rc
       → ((basis : Ground) (way : List Entry → List Entry) → AreKeptBelow basis way s → IfNone o (NoneEnds (spread_menu s)))
       → AreKeptBelow basis way t → NoneEnds (spread_menu t)
   ended_none is tells h =
-      subst (λ (x : Spread). NoneEnds (spread_menu x)) e (subst (λ (x : Option (Bor (Rc Kept Global))). IfNone x (NoneEnds (spread_menu s)))
-      is (tells basis way (subst (AreKeptBelow basis way) (sym e) h)))
+      subst (λ (x : Spread). NoneEnds (spread_menu x)) e
+      (subst (λ (x : Option (Bor (Rc Kept Global))). IfNone x (NoneEnds (spread_menu s))) is
+      (tells basis way (subst (AreKeptBelow basis way) (sym e) h)))
 
   pub ended_kept : (b : Behaviour) (k : Bor (Rc Kept Global)) → o ≡ Some k
       → ((basis : Ground) (way : List Entry → List Entry) → AreKeptBelow basis way s
@@ -204,8 +212,9 @@ module _ (basis : Ground) (way : List Entry → List Entry) (o : Option (Bor (Rc
   ended_kept b k is tells menu h = (
     subst (λ (x : Option (Bor (Rc Kept Global))). IfSome x (λ (y : Bor (Rc Kept Global)). IsKept basis y.now.value)) is
         (tells basis way (subst (AreKeptBelow basis way) (sym e) h.0)),
-    subst (IsExactOn basis b) (ap spread_menu (sym e) ∙ subst (λ (x : Option (Bor (Rc Kept Global))). IfSome x (λ (y : Bor (Rc Kept
-        Global)). spread_menu s ≡ map plain_item (listed_for y.now.value).items.items)) is menu) h.1,
+    subst (IsExactOn basis b) (ap spread_menu (sym e)
+        ∙ subst (λ (x : Option (Bor (Rc Kept Global))). IfSome x
+        (λ (y : Bor (Rc Kept Global)). spread_menu s ≡ map plain_item (listed_for y.now.value).items.items)) is menu) h.1,
   )
 
 -- the opened form of a node

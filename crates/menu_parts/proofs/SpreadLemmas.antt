@@ -88,14 +88,16 @@ module _ (data_ : Data) where
   none_of_left : (lefts rights : List Entry) → NoneEnds lefts → joins data_ no_gates lefts rights ≡ []
   none_of_left [] rights h = refl
   none_of_left (left ∷ lefts) rights h =
-      ap (λ (xs : List Draft). xs ++ joins data_ no_gates lefts rights) (dropped (λ (right : Entry). joined_at data_ no_gates (as_draft
-      left) (as_draft right)) rights (unjoined left rights h.0)) ∙ none_of_left lefts rights h.1
+      ap (λ (xs : List Draft). xs ++ joins data_ no_gates lefts rights)
+      (dropped (λ (right : Entry). joined_at data_ no_gates (as_draft left) (as_draft right)) rights (unjoined left rights h.0))
+      ∙ none_of_left lefts rights h.1
 
   none_of_right : (lefts rights : List Entry) → NoneEnds rights → joins data_ no_gates lefts rights ≡ []
   none_of_right [] rights h = refl
   none_of_right (left ∷ lefts) rights h =
-      ap (λ (xs : List Draft). xs ++ joins data_ no_gates lefts rights) (dropped (λ (right : Entry). joined_at data_ no_gates (as_draft
-      left) (as_draft right)) rights (unjoined_any left rights h)) ∙ none_of_right lefts rights h
+      ap (λ (xs : List Draft). xs ++ joins data_ no_gates lefts rights)
+      (dropped (λ (right : Entry). joined_at data_ no_gates (as_draft left) (as_draft right)) rights (unjoined_any left rights h))
+      ∙ none_of_right lefts rights h
 
   pub solved_of_left : (canon : Term → Term) (lefts rights : List Entry) → NoneEnds lefts
       → AllSolveTo canon (joins data_ no_gates lefts rights) []

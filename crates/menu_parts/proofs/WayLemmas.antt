@@ -72,10 +72,11 @@ module _ (items between more : List Item) (left right : Rc Spread Global) (part 
   both_pushed = subst (ArePushed items more) (sym is) (λ signature terms.
       let xs = spread_items left.value in
       let ys = spread_items right.value in
-      subst (ArePushed between more) f k signature (every_back (HasItemTerms signature) xs ys terms) ∙ (ap (λ (zs : List Entry). zs ++ map
-      plain_item ys) (subst (ArePushed items between) e h signature (every_front (HasItemTerms signature) xs ys terms)) ∙ (append_assoc (map
-      plain_item items) (map plain_item xs) (map plain_item ys) ∙ ap (λ (zs : List Entry). map plain_item items ++ zs) (sym (map-append
-      plain_item xs ys)))))
+      subst (ArePushed between more) f k signature (every_back (HasItemTerms signature) xs ys terms)
+      ∙ (ap (λ (zs : List Entry). zs ++ map plain_item ys)
+      (subst (ArePushed items between) e h signature (every_front (HasItemTerms signature) xs ys terms))
+      ∙ (append_assoc (map plain_item items) (map plain_item xs) (map plain_item ys)
+      ∙ ap (λ (zs : List Entry). map plain_item items ++ zs) (sym (map-append plain_item xs ys)))))
 
 pub both_pushed_terms : (items between more : List Item) (left right : Rc Spread Global) (part : MenuPart) (s first second : Spread)
     → s ≡ Both left right part → first ≡ left.value → second ≡ right.value → HavePushedTerms items between first
@@ -85,8 +86,9 @@ both_pushed_terms items between more left right part s first second is e f h k =
     subst (HavePushedTerms items more) (sym is) (λ signature earlier terms.
     let xs = spread_items left.value in
     let ys = spread_items right.value in
-    subst (HavePushedTerms between more) f k signature (subst (HavePushedTerms items between) e h signature earlier (every_front
-    (HasItemTerms signature) xs ys terms)) (every_back (HasItemTerms signature) xs ys terms))
+    subst (HavePushedTerms between more) f k signature
+    (subst (HavePushedTerms items between) e h signature earlier (every_front (HasItemTerms signature) xs ys terms))
+    (every_back (HasItemTerms signature) xs ys terms))
 
 -- the items of all parts alone
 pub first_pushed : (signature : Signature) (items more : List Item) (s t : Spread) → items ≡ [] → s ≡ t → ArePushed items more s

@@ -28,13 +28,15 @@ module _ (signature : Signature) (rule : PartRule) (fair : IsFair signature rule
       → SolvesTo canon (changed_draft rule draft) (option_map (changed rule) outcome)
   solved_change (unsolvable draft closed) = unsolvable (changed_draft rule draft) closed
   solved_change {canon = canon} (settled draft not_closed none) =
-      subst (λ (e : Entry). SolvesTo canon (changed_draft rule draft) (Some e)) (ap (λ (label : Label). record (changed rule (entry_of
-      (tidied canon draft))) { label = label }) (ap (label_with (renumbered (tidied canon draft).leaves)) (sym (fair.natural canon
-      draft.label)) ∙ natural_with (renumbered (tidied canon draft).leaves) (label_in canon draft.label))) (settled (changed_draft rule
-      draft) not_closed none)
+      subst (λ (e : Entry). SolvesTo canon (changed_draft rule draft) (Some e))
+      (ap (λ (label : Label). record (changed rule (entry_of (tidied canon draft))) { label = label })
+      (ap (label_with (renumbered (tidied canon draft).leaves)) (sym (fair.natural canon draft.label))
+      ∙ natural_with (renumbered (tidied canon draft).leaves) (label_in canon draft.label)))
+      (settled (changed_draft rule draft) not_closed none)
   solved_change {canon = canon} (replacing draft found outcome not_closed some rest) =
-      replacing (changed_draft rule draft) found (option_map (changed rule) outcome) not_closed some (subst (λ (d : Draft). SolvesTo canon d
-      (option_map (changed rule) outcome)) (sym (ap (λ (label : Label). record (changed_draft rule (replaced found (tidied canon draft))) {
-        label = label;
-      }) (ap (label_with (binding (found ∷ []))) (sym (fair.natural canon draft.label)) ∙ natural_with (binding (found ∷ []))
-      (label_in canon draft.label)))) (solved_change rest))
+      replacing (changed_draft rule draft) found (option_map (changed rule) outcome) not_closed some
+      (subst (λ (d : Draft). SolvesTo canon d (option_map (changed rule) outcome))
+      (sym (ap (λ (label : Label). record (changed_draft rule (replaced found (tidied canon draft))) { label = label })
+      (ap (label_with (binding (found ∷ []))) (sym (fair.natural canon draft.label))
+      ∙ natural_with (binding (found ∷ [])) (label_in canon draft.label))))
+      (solved_change rest))

@@ -58,14 +58,16 @@ module _ (signature : Signature) (sorts : List ℕ) where
       → enable_entry signature sorts entry ≡ Some made
   ending_gives entry made e =
       let test = tested (ends_with signature sorts entry.label) (changed (enabled_rule signature sorts) entry) e in
-      ap (λ (t : Bool). if t then by_rule (enabled_rule signature sorts) entry else by_rule passed_rule entry) (is_ending signature sorts
-      entry.label test.0) ∙ e
+      ap (λ (t : Bool). if t then by_rule (enabled_rule signature sorts) entry else by_rule passed_rule entry)
+      (is_ending signature sorts entry.label test.0)
+      ∙ e
 
   passing_gives : (entry made : Entry) → by_rule passed_rule entry ≡ Some made → enable_entry signature sorts entry ≡ Some made
   passing_gives entry made e =
       let test = tested (not (is_exit entry.label)) (changed passed_rule entry) e in
-      ap (λ (t : Bool). if t then by_rule (enabled_rule signature sorts) entry else by_rule passed_rule entry) (not-true (is_exit
-      entry.label) test.0) ∙ e
+      ap (λ (t : Bool). if t then by_rule (enabled_rule signature sorts) entry else by_rule passed_rule entry)
+      (not-true (is_exit entry.label) test.0)
+      ∙ e
 
 module _ (data_ : Data) (canon : Term → Term) (specification : Specification) (b : Behaviour) (variables : List Variable) (c : Behaviour)
     (over : AreOver data_ canon specification (enable b variables c)) where
@@ -113,10 +115,12 @@ module _ (data_ : Data) (canon : Term → Term) (specification : Specification) 
     pub enable_share : IsShare data_ canon specification (enable b variables c) (λ (s : Shape). IsBelow enabled s ⊎ IsBelow passed s)
         (enable_menu data_.signature variables entries)
     enable_share = record {
-      rising = rising_filter_map (enable_entry data_.signature (sorts_of variables)) entry_shape entry_shape (λ x x' y y' e e' before.
-          in_order data_.signature (sorts_of variables) x.shape x'.shape y.shape y'.shape before (made_shape data_.signature (sorts_of
-          variables) x y (came_so data_.signature (sorts_of variables) x y e)) (made_shape data_.signature (sorts_of variables) x' y'
-          (came_so data_.signature (sorts_of variables) x' y' e'))) entries menu.rising;
+      rising = rising_filter_map (enable_entry data_.signature (sorts_of variables)) entry_shape entry_shape
+          (λ x x' y y' e e' before.
+          in_order data_.signature (sorts_of variables) x.shape x'.shape y.shape y'.shape before
+          (made_shape data_.signature (sorts_of variables) x y (came_so data_.signature (sorts_of variables) x y e))
+          (made_shape data_.signature (sorts_of variables) x' y' (came_so data_.signature (sorts_of variables) x' y' e')))
+          entries menu.rising;
       sound = λ made a.
           let from : CameFrom (enable_entry data_.signature (sorts_of variables)) entries made =
           from_filter_map (enable_entry data_.signature (sorts_of variables)) entries made a in

@@ -25,8 +25,9 @@ use Rattle.shared_entries.specs.declared.items.Item.{Item}
 -- the entry by its label
 abbrev entry_by : Signature → List ℕ → Entry → plain.Label → Option Entry
 entry_by signature ss entry label =
-    if is_exit label then (if ends_with signature ss label then Some (entry_below enabled plain.inner_event entry) else None) else (if not
-    (is_exit label) then Some (entry_below passed label entry) else None)
+    if is_exit label
+    then (if ends_with signature ss label then Some (entry_below enabled plain.inner_event entry) else None)
+    else (if not (is_exit label) then Some (entry_below passed label entry) else None)
 
 -- an entry that ends
 ends_by : (signature : Signature) (ss : List ℕ) (item : Item) (values : Vec Sorted Global) → item.label.value ≡ Exit values
@@ -36,8 +37,9 @@ ends_by : (signature : Signature) (ss : List ℕ) (item : Item) (values : Vec So
 ends_by signature ss item values is h =
     let terms : AreTermsOf signature (profiles_of values.items) =
     subst (λ (l : Label). AreTermsOf signature (label_profiles l)) is h.values in
-    ap (λ (l : Label). entry_by signature ss (plain_item item) (label_of l)) is ∙ ap (λ (b : Bool). if b then Some (entry_below enabled
-    plain.inner_event (plain_item item)) else None) (ends_told signature values.items ss terms)
+    ap (λ (l : Label). entry_by signature ss (plain_item item) (label_of l)) is
+    ∙ ap (λ (b : Bool). if b then Some (entry_below enabled plain.inner_event (plain_item item)) else None)
+    (ends_told signature values.items ss terms)
 
 pub not_ended : (signature : Signature) (ss : List ℕ) (item : Item) (values : Vec Sorted Global) → item.label.value ≡ Exit values
     → false ≡ sorts_told (profiles_of values.items) ss → HasItemTerms signature item
@@ -51,8 +53,9 @@ pub is_ended : (signature : Signature) (ss : List ℕ) (item : Item) (values : V
     → made ≡ entry_below enabled plain.inner_event (plain_item item) → HasItemTerms signature item
     → Some made ≡ enable_entry signature ss (plain_item item)
 is_ended signature ss item values made is e m h =
-    ap (λ (x : Entry). Some x) m ∙ ap (λ (b : Bool). if b then Some (entry_below enabled plain.inner_event (plain_item item)) else None) e ∙
-    sym (ends_by signature ss item values is h)
+    ap (λ (x : Entry). Some x) m
+    ∙ ap (λ (b : Bool). if b then Some (entry_below enabled plain.inner_event (plain_item item)) else None) e
+    ∙ sym (ends_by signature ss item values is h)
 
 -- an entry that goes on
 passed_by : (signature : Signature) (ss : List ℕ) (entry : Entry) (label : Label) → ((values : Vec Sorted Global) → label ≡ Exit values → ⊥)

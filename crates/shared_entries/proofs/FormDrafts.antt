@@ -90,7 +90,8 @@ enabled_target variables c (gate_event g values) = c
 enabling_is : (signature : Signature) (variables : List Variable) (c : Behaviour) (m : Move) (label : Label)
     → enabling signature variables c m label ≡ (
     if ends_with signature (sorts_of variables) label
-    then Some (record { label = inner_event; target = enabled_target variables c label; asked = m.asked; sorts = m.sorts }) else None)
+    then Some (record { label = inner_event; target = enabled_target variables c label; asked = m.asked; sorts = m.sorts })
+    else None)
 enabling_is signature variables c m inner_event = refl
 enabling_is signature variables c m (gate_event g values) = refl
 enabling_is signature variables c m (exit_event values) = refl
@@ -124,8 +125,9 @@ module _ (data_ : Data) (canon : Term → Term) (specification : Specification) 
   pub choice_left : (b c : Behaviour) → AreOver data_ canon specification (choice b c)
       → MovesBy data_ canon specification (passing_on left_side) (choice b c) b
   choice_left b c over =
-      moves_by data_ canon specification (passing_on left_side) (choice b c) b (λ m. Some m) (passing_on_fair data_.signature left_side (λ s
-      t before. in_left before)) (passing_on_row left_side) (over_part (choice b c) b over over.closed.0) (omega arith) (λ s. plain_row _)
+      moves_by data_ canon specification (passing_on left_side) (choice b c) b (λ m. Some m)
+      (passing_on_fair data_.signature left_side (λ s t before. in_left before)) (passing_on_row left_side)
+      (over_part (choice b c) b over over.closed.0) (omega arith) (λ s. plain_row _)
 
   pub choice_right : (b c : Behaviour) → AreOver data_ canon specification (choice b c)
       → MovesBy data_ canon specification (passing_on right_side) (choice b c) c
@@ -152,21 +154,24 @@ module _ (data_ : Data) (canon : Term → Term) (specification : Specification) 
       → MovesBy data_ canon specification (alone_rule meet left_side) (parallel meet b c) b
   parallel_left meet b c over =
       moves_by data_ canon specification (alone_rule meet left_side) (parallel meet b c) b (alone meet (λ target. parallel meet target c))
-      (alone_fair data_.signature meet left_side (λ s t before. in_left before)) (alone_row meet left_side (λ target. parallel meet target
-      c)) (over_part (parallel meet b c) b over over.closed.1) (omega arith) (λ s. refl)
+      (alone_fair data_.signature meet left_side (λ s t before. in_left before))
+      (alone_row meet left_side (λ target. parallel meet target c))
+      (over_part (parallel meet b c) b over over.closed.1) (omega arith) (λ s. refl)
 
   pub parallel_right : (meet : SynchronisationSet) (b c : Behaviour) → AreOver data_ canon specification (parallel meet b c)
       → MovesBy data_ canon specification (alone_rule meet right_side) (parallel meet b c) c
   parallel_right meet b c over =
       moves_by data_ canon specification (alone_rule meet right_side) (parallel meet b c) c (alone meet (λ target. parallel meet b target))
-      (alone_fair data_.signature meet right_side (λ s t before. in_right before)) (alone_row meet right_side (λ target. parallel meet b
-      target)) (over_part (parallel meet b c) c over over.closed.2) (omega arith) (λ s. refl)
+      (alone_fair data_.signature meet right_side (λ s t before. in_right before))
+      (alone_row meet right_side (λ target. parallel meet b target))
+      (over_part (parallel meet b c) c over over.closed.2) (omega arith) (λ s. refl)
 
   pub hide_part : (gates : List ℕ) (b : Behaviour) → AreOver data_ canon specification (hide gates b)
       → MovesBy data_ canon specification (hide_rule gates) (hide gates b) b
   hide_part gates b over =
-      moves_by data_ canon specification (hide_rule gates) (hide gates b) b (λ m. Some (hiding gates m)) (hide_fair data_.signature gates)
-      (hide_row gates) (over_part (hide gates b) b over over.closed.1) (omega arith) (λ s. mapped_row (hiding gates) _)
+      moves_by data_ canon specification (hide_rule gates) (hide gates b) b (λ m. Some (hiding gates m))
+      (hide_fair data_.signature gates) (hide_row gates)
+      (over_part (hide gates b) b over over.closed.1) (omega arith) (λ s. mapped_row (hiding gates) _)
 
   pub relabel_part : (pairs : Relabelling) (b : Behaviour) → AreOver data_ canon specification (relabel pairs b)
       → MovesBy data_ canon specification (under_rule relabelled pairs) (relabel pairs b) b
@@ -178,25 +183,29 @@ module _ (data_ : Data) (canon : Term → Term) (specification : Specification) 
   pub enabled_part : (b : Behaviour) (variables : List Variable) (c : Behaviour) → AreOver data_ canon specification (enable b variables c)
       → MovesBy data_ canon specification (enabled_rule data_.signature (sorts_of variables)) (enable b variables c) b
   enabled_part b variables c over =
-      moves_by data_ canon specification (enabled_rule data_.signature (sorts_of variables)) (enable b variables c) b (λ m. enabling
-      data_.signature variables c m m.label) (enabled_fair data_.signature (sorts_of variables)) (enabled_row data_.signature variables c)
+      moves_by data_ canon specification (enabled_rule data_.signature (sorts_of variables)) (enable b variables c) b
+      (λ m. enabling data_.signature variables c m m.label) (enabled_fair data_.signature (sorts_of variables))
+      (enabled_row data_.signature variables c)
       (over_part (enable b variables c) b over over.closed.0) (omega arith) (λ s. refl)
 
   pub passed_part : (b : Behaviour) (variables : List Variable) (c : Behaviour) → AreOver data_ canon specification (enable b variables c)
       → MovesBy data_ canon specification passed_rule (enable b variables c) b
   passed_part b variables c over =
-      moves_by data_ canon specification passed_rule (enable b variables c) b (passing variables c) (passed_fair data_.signature)
-      (passed_row variables c) (over_part (enable b variables c) b over over.closed.0) (omega arith) (λ s. refl)
+      moves_by data_ canon specification passed_rule (enable b variables c) b (passing variables c)
+      (passed_fair data_.signature) (passed_row variables c)
+      (over_part (enable b variables c) b over over.closed.0) (omega arith) (λ s. refl)
 
   pub gate_part : (g : ℕ) (gates : List ℕ) (b : Behaviour) (k a : ℕ) → slice_get gates k ≡ Some a
       → AreOver data_ canon specification (choose_gate g gates b)
       → MovesBy data_ canon specification (under_rule (at_gate k) ((g, a) ∷ [])) (choose_gate g gates b) b
   gate_part g gates b k a at over =
-      moves_by data_ canon specification (under_rule (at_gate k) ((g, a) ∷ [])) (choose_gate g gates b) b (λ m. Some (relabelling ((g, a) ∷
-      []) m)) (under_fair data_.signature (at_gate k) ((g, a) ∷ []) (λ s t before. in_gate before)) (under_row (at_gate k) ((g, a) ∷ []))
-      (over_part (choose_gate g gates b) b over over.closed.2) (omega arith) (λ s. ap (option_and_then (λ (a' : ℕ). option_map (relabelling
-      ((g, a') ∷ [])) (open_move data_ canon specification.processes (first_apart specification.processes (choose_gate g gates b)) s 0 b)))
-      at ∙ mapped_row (relabelling ((g, a) ∷ [])) _)
+      moves_by data_ canon specification (under_rule (at_gate k) ((g, a) ∷ [])) (choose_gate g gates b) b
+      (λ m. Some (relabelling ((g, a) ∷ []) m))
+      (under_fair data_.signature (at_gate k) ((g, a) ∷ []) (λ s t before. in_gate before)) (under_row (at_gate k) ((g, a) ∷ []))
+      (over_part (choose_gate g gates b) b over over.closed.2) (omega arith)
+      (λ s. ap (option_and_then (λ (a' : ℕ). option_map (relabelling ((g, a') ∷ []))
+      (open_move data_ canon specification.processes (first_apart specification.processes (choose_gate g gates b)) s 0 b))) at
+      ∙ mapped_row (relabelling ((g, a) ∷ [])) _)
 
   -- ---- Bodies with values put in
 
@@ -214,10 +223,12 @@ module _ (data_ : Data) (canon : Term → Term) (specification : Specification) 
       let same : above (let_body canon bindings b) ≡ above b =
       above-with (binding_of (let_variables bindings) (map canon (let_terms bindings))) b in
       moves_by data_ canon specification (passing_on let_bound) (let_be bindings b) (let_body canon bindings b) (λ m. Some m)
-      (passing_on_fair data_.signature let_bound (λ s t before. in_let before)) (passing_on_row let_bound) (over_part (let_be bindings b)
-      (let_body canon bindings b) over (closed_inside (let_variables bindings) (let_terms bindings) b (let_be bindings b) over over.closed.1
+      (passing_on_fair data_.signature let_bound (λ s t before. in_let before)) (passing_on_row let_bound)
+      (over_part (let_be bindings b) (let_body canon bindings b) over
+      (closed_inside (let_variables bindings) (let_terms bindings) b (let_be bindings b) over over.closed.1
       (subst (λ (scope : List Variable). IsBehaviour data_.signature (length specification.gate_names) specification.processes scope b)
-      (append-nil (let_variables bindings)) over.closed.2))) (omega (arith, same)) (λ s. plain_row _)
+      (append-nil (let_variables bindings)) over.closed.2)))
+      (omega (arith, same)) (λ s. plain_row _)
 
   abbrev Defined : Process → Type 0
   Defined p = IsDefinition data_.signature (length specification.gate_names) specification.processes p.gates p.parameters p.exit p.body
@@ -240,22 +251,27 @@ module _ (data_ : Data) (canon : Term → Term) (specification : Specification) 
       above-with (binding_of process.parameters (map canon arguments)) process.body in
       let le : above process.body ≤ above_processes specification.processes = above_body specification.processes number process at in
       let defined : Defined process = Every-at Defined specification.processes number process over.well_formed.each at in
-      moves_by data_ canon specification (under_rule called (zip process.gates gates)) (call number gates arguments) (called_body canon
-      process arguments) (λ m. Some (relabelling (zip process.gates gates) m)) (under_fair data_.signature called (zip process.gates gates)
-      (λ s t before. in_called before)) (under_row called (zip process.gates gates)) (over_part (call number gates arguments) (called_body
-      canon process arguments) over (closed_inside process.parameters arguments process.body (call number gates arguments) over (call_terms
-      number gates arguments process at over.closed.1) defined.behaviour)) (omega (arith, same, le)) (λ s. ap (option_and_then (λ (p :
-      Process). option_map (relabelling (zip p.gates gates)) (open_move data_ canon specification.processes (first_apart
-      specification.processes (call number gates arguments)) s 0 (called_body canon p arguments)))) at ∙ mapped_row (relabelling (zip
-      process.gates gates)) _)
+      moves_by data_ canon specification (under_rule called (zip process.gates gates)) (call number gates arguments)
+      (called_body canon process arguments) (λ m. Some (relabelling (zip process.gates gates) m))
+      (under_fair data_.signature called (zip process.gates gates) (λ s t before. in_called before))
+      (under_row called (zip process.gates gates))
+      (over_part (call number gates arguments) (called_body canon process arguments) over
+      (closed_inside process.parameters arguments process.body (call number gates arguments) over
+      (call_terms number gates arguments process at over.closed.1) defined.behaviour))
+      (omega (arith, same, le))
+      (λ s. ap (option_and_then (λ (p : Process). option_map (relabelling (zip p.gates gates))
+      (open_move data_ canon specification.processes (first_apart specification.processes (call number gates arguments)) s 0
+      (called_body canon p arguments)))) at
+      ∙ mapped_row (relabelling (zip process.gates gates)) _)
 
   -- ---- Copies
 
   pub copies_over : (g : ℕ) (gates : List ℕ) (meet : SynchronisationSet) (b : Behaviour)
       → AreOver data_ canon specification (par_gate g gates meet b) → AreOver data_ canon specification (copies g gates meet b)
   copies_over g gates meet b over =
-      over_part (par_gate g gates meet b) (copies g gates meet b) over (opened_closed data_ specification over.well_formed canon (λ t s h.
-      canon_ground data_ canon t s over.is_canon h) variable (par_gate g gates meet b) over.closed)
+      over_part (par_gate g gates meet b) (copies g gates meet b) over
+      (opened_closed data_ specification over.well_formed canon (λ t s h. canon_ground data_ canon t s over.is_canon h) variable
+      (par_gate g gates meet b) over.closed)
 
   -- A gate `par` has the drafts of its copies.
   pub copies_drafts : (g : ℕ) (gates : List ℕ) (meet : SynchronisationSet) (b : Behaviour)
@@ -267,7 +283,8 @@ module _ (data_ : Data) (canon : Term → Term) (specification : Specification) 
       let low : above (copies g gates meet b) ≤ above b = above_copies g gates meet b in
       let le : first_apart specification.processes (copies g gates meet b) ≤ first_apart specification.processes (par_gate g gates meet b) =
       omega (arith, low) in
-      sym (same_drafts data_ canon specification (copies g gates meet b) (copies_over g gates meet b over) (first_apart
-      specification.processes (par_gate g gates meet b)) s le ∙ ap (option_map (draft_by s (first_apart specification.processes (par_gate g
-      gates meet b)))) (move_of-copies (record { signature = data_.signature; represent = canon; processes = specification.processes })
+      sym (same_drafts data_ canon specification (copies g gates meet b) (copies_over g gates meet b over)
+      (first_apart specification.processes (par_gate g gates meet b)) s le
+      ∙ ap (option_map (draft_by s (first_apart specification.processes (par_gate g gates meet b))))
+      (move_of-copies (record { signature = data_.signature; represent = canon; processes = specification.processes })
       (leaves_from (first_apart specification.processes (par_gate g gates meet b))) s 0 g gates meet b))

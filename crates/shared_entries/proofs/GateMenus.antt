@@ -67,8 +67,10 @@ module _ (data_ : Data) (canon : Term → Term) (specification : Specification) 
       let at : slice_get gates k ≡ Some a = ap (slice_get gates) here ∙ behind 0 in
       other_property data_ canon specification (choose_gate g gates b) (λ (s : Shape). IsBelow (at_gate k) s ⊎ IsFrom (suc k) s) (IsFrom k)
       (all_by_rule (under_rule (at_gate k) ((g, a) ∷ [])) entries ++ gates_menu g (suc k) rest entries) (to_here k) (from_here k)
-      (both_shares data_ canon specification (choose_gate g gates b) (IsBelow (at_gate k)) (IsFrom (suc k)) (all_by_rule (under_rule
-      (at_gate k) ((g, a) ∷ [])) entries) (gates_menu g (suc k) rest entries) (rule_share data_ canon specification (under_rule (at_gate k)
-      ((g, a) ∷ [])) (choose_gate g gates b) b (carries data_ canon specification (under_rule (at_gate k) ((g, a) ∷ [])) (choose_gate g
-      gates b) b (gate_part data_ canon specification g gates b k a at over)) entries menu) (gates_share (suc k) rest (λ i. let e : suc k +
-      i ≡ k + suc i = omega arith in ap (slice_get gates) e ∙ behind (suc i))) (in_gate_order k))
+      (both_shares data_ canon specification (choose_gate g gates b) (IsBelow (at_gate k)) (IsFrom (suc k))
+      (all_by_rule (under_rule (at_gate k) ((g, a) ∷ [])) entries) (gates_menu g (suc k) rest entries)
+      (rule_share data_ canon specification (under_rule (at_gate k) ((g, a) ∷ [])) (choose_gate g gates b) b
+      (carries data_ canon specification (under_rule (at_gate k) ((g, a) ∷ [])) (choose_gate g gates b) b
+      (gate_part data_ canon specification g gates b k a at over)) entries menu)
+      (gates_share (suc k) rest (λ i. let e : suc k + i ≡ k + suc i = omega arith in ap (slice_get gates) e ∙ behind (suc i)))
+      (in_gate_order k))

@@ -35,11 +35,13 @@ pub same_tidied : {canon : Term → Term} {draft : Draft} {outcome : Option Entr
 same_tidied other (unsolvable draft closed) same =
     unsolvable other (subst (λ (d : Draft). has_closed d.conditions ≡ true) same closed)
 same_tidied {canon = canon} other (settled draft not_closed none) same =
-    subst (λ (d : Draft). SolvesTo canon other (Some (entry_of d))) (sym same) (settled other (subst (λ (d : Draft). has_closed d.conditions
-    ≡ false) same not_closed) (subst (λ (d : Draft). first_replacement d.conditions ≡ None) same none))
+    subst (λ (d : Draft). SolvesTo canon other (Some (entry_of d))) (sym same)
+    (settled other (subst (λ (d : Draft). has_closed d.conditions ≡ false) same not_closed)
+    (subst (λ (d : Draft). first_replacement d.conditions ≡ None) same none))
 same_tidied {canon = canon} other (replacing draft found outcome not_closed some rest) same =
-    replacing other found outcome (subst (λ (d : Draft). has_closed d.conditions ≡ false) same not_closed) (subst (λ (d : Draft).
-    first_replacement d.conditions ≡ Some found) same some) (subst (λ (d : Draft). SolvesTo canon (replaced found d) outcome) same rest)
+    replacing other found outcome (subst (λ (d : Draft). has_closed d.conditions ≡ false) same not_closed)
+    (subst (λ (d : Draft). first_replacement d.conditions ≡ Some found) same some)
+    (subst (λ (d : Draft). SolvesTo canon (replaced found d) outcome) same rest)
 
 -- The draft of a guard: the test is asked before what its body asks.
 abbrev pub asked_first : Test → Draft → Draft
@@ -88,9 +90,10 @@ module _ (data_ : Data) (canon : Term → Term) (specification : Specification) 
   guard_drafts : (s : Shape) → draft_of data_ canon specification.processes (guarded s) (guard test b)
       ≡ option_map (asked_first test) (draft_of data_ canon specification.processes s b)
   guard_drafts s =
-      by_move (first_apart specification.processes (guard test b)) s (open_move data_ canon specification.processes (first_apart
-      specification.processes (guard test b)) s 0 b) ∙ sym (ap (option_map (asked_first test)) (same_drafts data_ canon specification b
-      over_body (first_apart specification.processes (guard test b)) s (omega arith)))
+      by_move (first_apart specification.processes (guard test b)) s
+      (open_move data_ canon specification.processes (first_apart specification.processes (guard test b)) s 0 b)
+      ∙ sym (ap (option_map (asked_first test))
+      (same_drafts data_ canon specification b over_body (first_apart specification.processes (guard test b)) s (omega arith)))
 
   -- A test that holds is dropped.
   module _ (holds : canon test.left ≡ canon test.right) where
@@ -105,9 +108,10 @@ module _ (data_ : Data) (canon : Term → Term) (specification : Specification) 
     forward s e made f gives = record {
       draft = asked_first test f.draft;
       drafted = guard_drafts s ∙ ap (option_map (asked_first test)) f.drafted;
-      solves = same_tidied (asked_first test f.draft) (subst (λ (x : Entry). SolvesTo canon (changed_draft rule f.draft) (Some x))
-          (same_Some (changed rule e) made gives) (solved_change data_.signature rule (passing_on_fair data_.signature guarded (λ s t
-          before. in_guarded before)) f.solves)) (sym (dropped f.draft));
+      solves = same_tidied (asked_first test f.draft)
+          (subst (λ (x : Entry). SolvesTo canon (changed_draft rule f.draft) (Some x)) (same_Some (changed rule e) made gives)
+          (solved_change data_.signature rule (passing_on_fair data_.signature guarded (λ s t before. in_guarded before)) f.solves))
+          (sym (dropped f.draft));
     }
 
     by_outcome : (s : Shape) (made : Entry) (draft : Draft) → draft_of data_ canon specification.processes s b ≡ Some draft
@@ -147,11 +151,14 @@ module _ (data_ : Data) (canon : Term → Term) (specification : Specification) 
 
     closed : (draft : Draft) → has_closed (tidied canon (asked_first test draft)).conditions ≡ true
     closed draft =
-        ap has_closed (kept_if (term_eq (canon test.left) (canon test.right)) (test_in canon test) (differing (map (test_in canon)
-        draft.conditions)) (unequal (term_eq (canon test.left) (canon test.right)) refl)) ∙ both_true (is_ground (canon test.left))
-        (is_ground (canon test.right)) (has_closed (differing (map (test_in canon) draft.conditions))) ((Decides-is_ground (canon
-        test.left)).1 (canon_ground data_ canon test.left over.closed.0.sort over.is_canon left_ground).ground) ((Decides-is_ground (canon
-        test.right)).1 (canon_ground data_ canon test.right over.closed.0.sort over.is_canon right_ground).ground)
+        ap has_closed (kept_if (term_eq (canon test.left) (canon test.right)) (test_in canon test)
+        (differing (map (test_in canon) draft.conditions)) (unequal (term_eq (canon test.left) (canon test.right)) refl))
+        ∙ both_true (is_ground (canon test.left)) (is_ground (canon test.right))
+        (has_closed (differing (map (test_in canon) draft.conditions)))
+        ((Decides-is_ground (canon test.left)).1
+        (canon_ground data_ canon test.left over.closed.0.sort over.is_canon left_ground).ground)
+        ((Decides-is_ground (canon test.right)).1
+        (canon_ground data_ canon test.right over.closed.0.sort over.is_canon right_ground).ground)
 
     pub guard_ends : (s : Shape) (made : Entry) → IsSolvedForm data_ canon specification (guard test b) (guarded s) made → ⊥
     guard_ends s made f =

@@ -31,8 +31,9 @@ added made None (Some d) rest e = absurd (cc e)
 added made (Some y) None rest e = absurd (cc e)
 added made (Some y) (Some d) rest e =
     let same : plain_item y ≡ d = cc in
-    ap (λ (xs : List Entry). xs ++ rest) (map-append plain_item made (y ∷ [])) ∙ (append_assoc (map plain_item made) (plain_item y ∷ [])
-    rest ∙ ap (λ (x : Entry). map plain_item made ++ (x ∷ rest)) same)
+    ap (λ (xs : List Entry). xs ++ rest) (map-append plain_item made (y ∷ []))
+    ∙ (append_assoc (map plain_item made) (plain_item y ∷ []) rest
+    ∙ ap (λ (x : Entry). map plain_item made ++ (x ∷ rest)) same)
 
 some_terms : (signature : Signature) (o : Option Item) → IfSome o (λ (made : Item). HasItemTerms signature made)
     → Every (HasItemTerms signature) (option_to_list o)
@@ -86,9 +87,10 @@ mapped_begun {X = X} f g made rest e = ap (λ (xs : List X). map f xs ++ map g r
 pub mapped_more : {X Y Z : Type 0} (f : X → Z) (g : Y → Z) (made more : List X) (x : X) (rest next : List Y) (y : Y) (whole : List Z)
     → rest ≡ y ∷ next → more ≡ made ++ x ∷ [] → f x ≡ g y → map f made ++ map g rest ≡ whole → map f more ++ map g next ≡ whole
 mapped_more {X = X} {Y = Y} {Z = Z} f g made more x rest next y whole e m same h =
-    ap (λ (xs : List X). map f xs ++ map g next) m ∙ (ap (λ (zs : List Z). zs ++ map g next) (map-append f made (x ∷ [])) ∙ (append_assoc
-    (map f made) (f x ∷ []) (map g next) ∙ (ap (λ (z : Z). map f made ++ (z ∷ map g next)) same ∙ (ap (λ (ys : List Y). map f made ++ map g
-    ys) (sym e) ∙ h))))
+    ap (λ (xs : List X). map f xs ++ map g next) m
+    ∙ (ap (λ (zs : List Z). zs ++ map g next) (map-append f made (x ∷ []))
+    ∙ (append_assoc (map f made) (f x ∷ []) (map g next)
+    ∙ (ap (λ (z : Z). map f made ++ (z ∷ map g next)) same ∙ (ap (λ (ys : List Y). map f made ++ map g ys) (sym e) ∙ h))))
 
 pub mapped_done : {X Y Z : Type 0} (f : X → Z) (g : Y → Z) (made : List X) (rest : List Y) (whole : List Z) → rest ≡ []
     → map f made ++ map g rest ≡ whole → map f made ≡ whole

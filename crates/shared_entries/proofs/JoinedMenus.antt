@@ -74,8 +74,9 @@ module _ (data_ : Data) (meet : SynchronisationSet) where
       → joined_at data_ meet (as_draft left) (as_draft right) ≡ Some draft → IsAmong draft (joins data_ meet lefts rights)
   to_joins [] rights left right draft a b is = absurd a
   to_joins (first ∷ lefts) rights left right draft (inl same) b is =
-      IsAmong-left draft (joins_of data_ meet first rights) (joins data_ meet lefts rights) (IsAmong-filter_map (join_with first) right
-      draft rights (ap (λ (l : Entry). joined_at data_ meet (as_draft l) (as_draft right)) same ∙ is) b)
+      IsAmong-left draft (joins_of data_ meet first rights) (joins data_ meet lefts rights)
+      (IsAmong-filter_map (join_with first) right draft rights
+      (ap (λ (l : Entry). joined_at data_ meet (as_draft l) (as_draft right)) same ∙ is) b)
   to_joins (first ∷ lefts) rights left right draft (inr a) b is =
       IsAmong-right draft (joins_of data_ meet first rights) (joins data_ meet lefts rights) (to_joins lefts rights left right draft a b is)
 
@@ -84,15 +85,21 @@ module _ (data_ : Data) (meet : SynchronisationSet) where
       → RisingBy draft_shape (joins data_ meet lefts rights)
   joins_rise [] rights h k = tt
   joins_rise (left ∷ lefts) rights h k =
-      rising_append draft_shape (joins_of data_ meet left rights) (joins data_ meet lefts rights) (rising_filter_map (join_with left)
-      entry_shape draft_shape (λ r r' d d' e e' before. subst (λ (s : Shape). Before s d'.shape) (sym (join_shape (as_draft left) (as_draft
-      r) d e)) (subst (λ (s : Shape). Before (both_sides left.shape r.shape) s) (sym (join_shape (as_draft left) (as_draft r') d' e'))
-      (in_second (Agree-refl left.shape) before))) rights k) (joins_rise lefts rights h.1 k) (λ d d' a a'.
+      rising_append draft_shape (joins_of data_ meet left rights) (joins data_ meet lefts rights)
+      (rising_filter_map (join_with left) entry_shape draft_shape
+      (λ r r' d d' e e' before.
+      subst (λ (s : Shape). Before s d'.shape) (sym (join_shape (as_draft left) (as_draft r) d e))
+      (subst (λ (s : Shape). Before (both_sides left.shape r.shape) s) (sym (join_shape (as_draft left) (as_draft r') d' e'))
+      (in_second (Agree-refl left.shape) before)))
+      rights k)
+      (joins_rise lefts rights h.1 k)
+      (λ d d' a a'.
       let from : CameFrom (join_with left) rights d = from_filter_map (join_with left) rights d a in
       let j : IsJoin data_ meet lefts rights d' = from_joins lefts rights d' a' in
-      subst (λ (s : Shape). Before s d'.shape) (sym (join_shape (as_draft left) (as_draft from.origin) d from.gives)) (subst (λ (s : Shape).
-      Before (both_sides left.shape from.origin.shape) s) (sym (join_shape (as_draft j.left) (as_draft j.right) d' j.is)) (in_first
-      (Every-among (λ (y : Entry). Before left.shape y.shape) lefts j.left h.0 j.left_listed))))
+      subst (λ (s : Shape). Before s d'.shape) (sym (join_shape (as_draft left) (as_draft from.origin) d from.gives))
+      (subst (λ (s : Shape). Before (both_sides left.shape from.origin.shape) s)
+      (sym (join_shape (as_draft j.left) (as_draft j.right) d' j.is))
+      (in_first (Every-among (λ (y : Entry). Before left.shape y.shape) lefts j.left h.0 j.left_listed))))
 
 -- An option that is not missing is there.
 there_is : {X : Type 0} (o : Option X) → (o ≡ None → ⊥) → (x : X) × (o ≡ Some x)
@@ -132,8 +139,9 @@ module _ (data_ : Data) (canon : Term → Term) (specification : Specification) 
       → draft_of data_ canon specification.processes t c ≡ Some right → joined_at data_ meet left right ≡ Some whole
       → draft_of data_ canon specification.processes (both_sides s t) (parallel meet b c) ≡ Some whole
   whole_draft s t left right whole e f is =
-      joined_drafts data_ canon specification meet b c over s t ∙ (ap (option_and_then (λ (l : Draft). option_and_then (joined_at data_ meet
-      l) (draft_of data_ canon specification.processes t c))) e ∙ (ap (option_and_then (joined_at data_ meet left)) f ∙ is))
+      joined_drafts data_ canon specification meet b c over s t
+      ∙ (ap (option_and_then (λ (l : Draft). option_and_then (joined_at data_ meet l) (draft_of data_ canon specification.processes t c))) e
+      ∙ (ap (option_and_then (joined_at data_ meet left)) f ∙ is))
 
   -- A solved join of solved forms is a solved form of the whole.
   pub join_sound : (s t : Shape) (l r made : Entry) (draft : Draft) → IsSolvedForm data_ canon specification b s l
@@ -143,8 +151,9 @@ module _ (data_ : Data) (canon : Term → Term) (specification : Specification) 
       let both : AreSolvedSides data_ canon f.draft g.draft l r = sides s t l r f g in
       let parts = parts_of data_ meet (as_draft l) (as_draft r) draft is in
       let whole : (d : Draft) × (join_of_drafts data_.signature f.draft g.draft ≡ Some d) =
-      there_is (join_of_drafts data_.signature f.draft g.draft) (λ none. none_and_some (join_of_drafts data_.signature (as_draft l)
-      (as_draft r)) draft ((solved_sides.same_joins data_ canon f.draft g.draft l r over.is_canon both).0 none) parts.1) in
+      there_is (join_of_drafts data_.signature f.draft g.draft) (λ none.
+      none_and_some (join_of_drafts data_.signature (as_draft l) (as_draft r)) draft
+      ((solved_sides.same_joins data_ canon f.draft g.draft l r over.is_canon both).0 none) parts.1) in
       record {
         draft = whole.0;
         drafted = whole_draft s t f.draft g.draft whole.0 f.drafted g.drafted
@@ -182,12 +191,14 @@ module _ (data_ : Data) (canon : Term → Term) (specification : Specification) 
   by_outcomes : (s t : Shape) (made : Entry) (whole : Draft) (d : DraftsOfBoth s t whole) → SolvesTo canon whole (Some made)
       → (o p : Option Entry) → SolvesTo canon d.left o → SolvesTo canon d.right p → ComesFromBoth s t made
   by_outcomes s t made whole d solves None p left right =
-      absurd (cc (determined (solved_sides.left_nothing data_ canon d.left d.right whole over.is_canon (form_order data_ canon specification
-      b s d.left over_left d.left_drafted) (form_order data_ canon specification c t d.right over_right d.right_drafted) (parts_of data_
-      meet d.left d.right whole d.is).1 left) solves))
+      absurd (cc (determined (solved_sides.left_nothing data_ canon d.left d.right whole over.is_canon
+      (form_order data_ canon specification b s d.left over_left d.left_drafted)
+      (form_order data_ canon specification c t d.right over_right d.right_drafted)
+      (parts_of data_ meet d.left d.right whole d.is).1 left) solves))
   by_outcomes s t made whole d solves (Some l) None left right =
-      absurd (cc (determined (solved_sides.right_nothing data_ canon d.left d.right whole over.is_canon (form_order data_ canon
-      specification b s d.left over_left d.left_drafted) (form_order data_ canon specification c t d.right over_right d.right_drafted)
+      absurd (cc (determined (solved_sides.right_nothing data_ canon d.left d.right whole over.is_canon
+      (form_order data_ canon specification b s d.left over_left d.left_drafted)
+      (form_order data_ canon specification c t d.right over_right d.right_drafted)
       (parts_of data_ meet d.left d.right whole d.is).1 right) solves))
   by_outcomes s t made whole d solves (Some l) (Some r) left right =
       let f : IsSolvedForm data_ canon specification b s l = record { draft = d.left; drafted = d.left_drafted; solves = left } in
@@ -195,8 +206,9 @@ module _ (data_ : Data) (canon : Term → Term) (specification : Specification) 
       let both : AreSolvedSides data_ canon d.left d.right l r = sides s t l r f g in
       let parts = parts_of data_ meet d.left d.right whole d.is in
       let join : (x : Draft) × (join_of_drafts data_.signature (as_draft l) (as_draft r) ≡ Some x) =
-      there_is (join_of_drafts data_.signature (as_draft l) (as_draft r)) (λ none. none_and_some (join_of_drafts data_.signature d.left
-      d.right) whole ((solved_sides.same_joins data_ canon d.left d.right l r over.is_canon both).1 none) parts.1) in
+      there_is (join_of_drafts data_.signature (as_draft l) (as_draft r)) (λ none.
+      none_and_some (join_of_drafts data_.signature d.left d.right) whole
+      ((solved_sides.same_joins data_ canon d.left d.right l r over.is_canon both).1 none) parts.1) in
       record {
         left = l;
         right = r;
@@ -238,6 +250,8 @@ module _ (data_ : Data) (canon : Term → Term) (specification : Specification) 
     complete = λ s made is f.
         let from : ComesFromBoth is.0 is.1 made =
         join_complete is.0 is.1 made (subst (λ (t : Shape). IsSolvedForm data_ canon specification (parallel meet b c) t made) is.2 f) in
-        solved_to canon solve from.draft made (to_joins data_ meet lefts rights from.left from.right from.draft (left_menu.complete is.0
-        from.left from.left_form) (right_menu.complete is.1 from.right from.right_form) from.is) from.solves;
+        solved_to canon solve from.draft made
+        (to_joins data_ meet lefts rights from.left from.right from.draft (left_menu.complete is.0 from.left from.left_form)
+        (right_menu.complete is.1 from.right from.right_form) from.is)
+        from.solves;
   }

@@ -58,16 +58,19 @@ module _ (data_ : Data) (canon : Term → Term) (specification : Specification) 
       → entries ≡ call_menu (zip process.gates gates) (kept_menu part)
       → Exact data_ canon specification.processes (call number gates arguments) entries
   call_exact number gates arguments part entries over for_body exact process at same =
-      subst (Exactly (call number gates arguments)) (sym same) (makes.of_call number gates arguments process (kept_menu part) over at (subst
-      (λ (b : Behaviour). Exactly b (kept_menu part)) (for_body.body ∙ ap (λ (p : Process). called_body canon p arguments) (same_Some
-      for_body.process process (sym for_body.exists ∙ at))) exact))
+      subst (Exactly (call number gates arguments)) (sym same)
+      (makes.of_call number gates arguments process (kept_menu part) over at
+      (subst (λ (b : Behaviour). Exactly b (kept_menu part))
+      (for_body.body ∙ ap (λ (p : Process). called_body canon p arguments) (same_Some for_body.process process (sym for_body.exists ∙ at)))
+      exact))
 
   made_exact : (kept : Kept) → AreOver data_ canon specification (kept_for kept) → PartsExact data_ canon specification.processes kept
       → IsMadeOfParts data_ canon specification.processes kept → Exact data_ canon specification.processes (kept_for kept) (kept_menu kept)
   made_exact (kept_component b entries) over parts made = made
   made_exact (kept_parallel meet left right entries) over parts made =
-      subst (Exactly (parallel meet (kept_for left) (kept_for right))) (sym made.2) (makes.of_parallel meet (kept_for left) (kept_for right)
-      (kept_menu left) (kept_menu right) made.0 over (root left parts.0) (root right parts.1) made.1)
+      subst (Exactly (parallel meet (kept_for left) (kept_for right))) (sym made.2)
+      (makes.of_parallel meet (kept_for left) (kept_for right) (kept_menu left) (kept_menu right) made.0 over
+      (root left parts.0) (root right parts.1) made.1)
   made_exact (kept_hide gates part entries) over parts made =
       subst (Exactly (hide gates (kept_for part))) (sym made) (makes.of_hide gates (kept_for part) (kept_menu part) over (root part parts))
   made_exact (kept_enable part variables c entries) over parts made =
@@ -77,11 +80,13 @@ module _ (data_ : Data) (canon : Term → Term) (specification : Specification) 
       subst (Exactly (disable (kept_for left) (kept_for right))) (sym made)
       (makes.of_disable (kept_for left) (kept_for right) (kept_menu left) (kept_menu right) over (root left parts.0) (root right parts.1))
   made_exact (kept_let bindings b part entries) over parts made =
-      subst (Exactly (let_be bindings b)) (sym made) (makes.of_let bindings b (kept_menu part) over (subst (λ (body : Behaviour). Exactly
-      body (kept_menu part)) parts.0 (root part parts.1)))
+      subst (Exactly (let_be bindings b)) (sym made)
+      (makes.of_let bindings b (kept_menu part) over
+      (subst (λ (body : Behaviour). Exactly body (kept_menu part)) parts.0 (root part parts.1)))
   made_exact (kept_gate_par g gates meet b part entries) over parts made =
-      subst (Exactly (par_gate g gates meet b)) (sym made) (makes.of_gate_par g gates meet b (kept_menu part) over (subst (λ (body :
-      Behaviour). Exactly body (kept_menu part)) parts.0 (root part parts.1)))
+      subst (Exactly (par_gate g gates meet b)) (sym made)
+      (makes.of_gate_par g gates meet b (kept_menu part) over
+      (subst (λ (body : Behaviour). Exactly body (kept_menu part)) parts.0 (root part parts.1)))
   made_exact (kept_call number gates arguments part entries) over parts made =
       call_exact number gates arguments part entries over parts.0 (root part parts.1) made.0 made.1 made.2
   made_exact (kept_relabel pairs part entries) over parts made =
@@ -92,8 +97,9 @@ module _ (data_ : Data) (canon : Term → Term) (specification : Specification) 
   keep_menus = record {
     serves = λ kept b all same. subst (λ (x : Behaviour). Exactly x (kept_menu kept)) same (root kept all);
     made = λ kept over parts made. whole kept (made_exact kept over parts made) parts;
-    unchanged = λ earlier kept all parts same menu. whole kept (subst (Exactly (kept_for kept)) menu (subst (λ (x : Behaviour). Exactly x
-        (kept_menu earlier)) same (root earlier all))) parts;
+    unchanged = λ earlier kept all parts same menu.
+        whole kept
+        (subst (Exactly (kept_for kept)) menu (subst (λ (x : Behaviour). Exactly x (kept_menu earlier)) same (root earlier all))) parts;
   }
 
 pub joins_in_order : JoinsAreInOrder

@@ -88,9 +88,10 @@ module _ (data_ : Data) (canon : Term → Term) (is_canon : IsCanon data_ canon)
       → ((s : ℕ) (t : Term) → HasLeafVariables data_.signature draft.leaves s t → HasSort data_.signature (f t) s)
       → SameKind data_.signature (label_in f draft.label) draft.label
   keeps draft f order sorted =
-      kind_in data_.signature f draft.label (terms_in_order data_ draft (λ t. head_sort_of data_.signature (f t) ≡ head_sort_of
-      data_.signature t) (λ t h. sort_of_sorted data_.signature (f t) h.0 (sorted h.0 t h.1) ∙ sym (sort_of_sorted data_.signature t h.0
-      h.1.sorted)) order).values
+      kind_in data_.signature f draft.label
+      (terms_in_order data_ draft (λ t. head_sort_of data_.signature (f t) ≡ head_sort_of data_.signature t)
+      (λ t h. sort_of_sorted data_.signature (f t) h.0 (sorted h.0 t h.1)
+      ∙ sym (sort_of_sorted data_.signature t h.0 h.1.sorted)) order).values
 
   put_keeps : (draft : Draft) (values : Substitution) → IsInOrder data_.signature draft
       → ((s : ℕ) (t : Term) → HasLeafVariables data_.signature draft.leaves s t → HasSort data_.signature (substituted values t) s)
@@ -116,15 +117,19 @@ module _ (data_ : Data) (canon : Term → Term) (is_canon : IsCanon data_ canon)
   outcome_kind (unsolvable draft closed) order = tt
   outcome_kind (settled draft not_closed none) order =
       let order' : IsInOrder data_.signature (tidied canon draft) = tidied_in_order data_ canon is_canon draft order in
-      kind_then data_.signature (entry_of (tidied canon draft)).label (tidied canon draft).label draft.label (put_keeps (tidied canon draft)
-      (renumbered (tidied canon draft).leaves) order' (λ s t h. substituted_sort data_.signature (renumbered (tidied canon draft).leaves) t
-      s h.sorted (λ n r o. (refl, occurs_sort data_.signature t s n r h.sorted o)))) (tidied_keeps draft order)
+      kind_then data_.signature (entry_of (tidied canon draft)).label (tidied canon draft).label draft.label
+      (put_keeps (tidied canon draft) (renumbered (tidied canon draft).leaves) order'
+      (λ s t h. substituted_sort data_.signature (renumbered (tidied canon draft).leaves) t s h.sorted
+      (λ n r o. (refl, occurs_sort data_.signature t s n r h.sorted o))))
+      (tidied_keeps draft order)
   outcome_kind (replacing draft found outcome not_closed gives rest) order =
       let order' : IsInOrder data_.signature (tidied canon draft) = tidied_in_order data_ canon is_canon draft order in
-      carried draft (replaced found (tidied canon draft)) outcome (kind_then data_.signature (replaced found (tidied canon draft)).label
-      (tidied canon draft).label draft.label (put_keeps (tidied canon draft) (put_for found) order' (replacement_changes data_ (tidied canon
-      draft).leaves order'.one_sort (tidied canon draft).conditions found (rests_on data_ (tidied canon draft) found order' gives)).sorted)
-      (tidied_keeps draft order)) (outcome_kind rest (replaced_in_order data_ (tidied canon draft) found order' gives))
+      carried draft (replaced found (tidied canon draft)) outcome
+      (kind_then data_.signature (replaced found (tidied canon draft)).label (tidied canon draft).label draft.label
+      (put_keeps (tidied canon draft) (put_for found) order' (replacement_changes data_ (tidied canon draft).leaves order'.one_sort
+      (tidied canon draft).conditions found (rests_on data_ (tidied canon draft) found order' gives)).sorted)
+      (tidied_keeps draft order))
+      (outcome_kind rest (replaced_in_order data_ (tidied canon draft) found order' gives))
 
   -- the label of an entry is of the kind of its draft's
   pub same_kind : {draft : Draft} {entry : Entry} → SolvesTo canon draft (Some entry) → IsInOrder data_.signature draft

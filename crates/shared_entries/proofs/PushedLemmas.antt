@@ -30,8 +30,10 @@ pub one_pushed : (items more : List Item) (item : Item) (o : Option listed.Entry
     → more ≡ items ++ item ∷ [] → plain_item item ≡ plain_entry entry
     → map plain_item more ≡ map plain_item items ++ option_to_list (option_map plain_entry o)
 one_pushed items more item o entry is m same =
-    ap (λ (xs : List Item). map plain_item xs) m ∙ (map-append plain_item items (item ∷ []) ∙ (ap (λ (x : Entry). map plain_item items ++ (x
-    ∷ [])) same ∙ ap (λ (x : Option listed.Entry). map plain_item items ++ option_to_list (option_map plain_entry x)) (sym is)))
+    ap (λ (xs : List Item). map plain_item xs) m
+    ∙ (map-append plain_item items (item ∷ [])
+    ∙ (ap (λ (x : Entry). map plain_item items ++ (x ∷ [])) same
+    ∙ ap (λ (x : Option listed.Entry). map plain_item items ++ option_to_list (option_map plain_entry x)) (sym is)))
 
 pub pushed_terms : (signature : Signature) (items more : List Item) (item : Item) (o : Option listed.Entry) (entry : listed.Entry)
     → o ≡ Some entry → more ≡ items ++ item ∷ [] → item_terms item ≡ entry_terms entry
@@ -74,7 +76,8 @@ appended_items first second made m = ap (λ (xs : List Item). map plain_item xs)
 one_behind : (first second made : List Item) (es fs : List Entry) → made ≡ first ++ second → map plain_item first ≡ es
     → map plain_item second ≡ fs → map plain_item made ≡ es ++ fs
 one_behind first second made es fs m e f =
-    appended_items first second made m ∙ (ap (λ (xs : List Entry). xs ++ map plain_item second) e ∙ ap (λ (xs : List Entry). es ++ xs) f)
+    appended_items first second made m
+    ∙ (ap (λ (xs : List Entry). xs ++ map plain_item second) e ∙ ap (λ (xs : List Entry). es ++ xs) f)
 
 pub parallel_items : (meet : SynchronisationSet) (lefts rights boths first second behind made : List Item) → made ≡ first ++ behind
     → map plain_item first ≡ filter_map (by_rule (alone_rule meet left_side)) (map plain_item lefts)

@@ -88,8 +88,10 @@ module _ {X Y : Type 0} (f : X → Option Y) (shape : X → Shape) (other : Y �
   pub rising_filter_map : (xs : List X) → RisingBy shape xs → RisingBy other (filter_map f xs)
   rising_filter_map [] h = tt
   rising_filter_map (x ∷ xs) h =
-      rising_cons (f x) (filter_map f xs) (λ y e. Every-filter_map f (λ x'. Before (shape x) (shape x')) (λ z. Before (other y) (other z))
-      (λ x' z before e'. keeps x x' y z e e' before) xs h.0) (rising_filter_map xs h.1)
+      rising_cons (f x) (filter_map f xs)
+      (λ y e. Every-filter_map f (λ x'. Before (shape x) (shape x')) (λ z. Before (other y) (other z))
+      (λ x' z before e'. keeps x x' y z e e' before) xs h.0)
+      (rising_filter_map xs h.1)
 
 abbrev pub entry_shape : Entry → Shape
 entry_shape entry = entry.shape
@@ -101,7 +103,8 @@ pub rise_at : (entries : List Entry) → RisingBy entry_shape entries → Rise e
 rise_at [] h i j e f lt at at' = absurd (cc at)
 rise_at (g ∷ entries) h zero zero e f lt at at' = absurd (omega arith)
 rise_at (g ∷ entries) h zero (suc j) e f lt at at' =
-    subst (λ (x : Entry). Before x.shape f.shape) (same_Some g e at) (Every-at (λ (x : Entry). Before g.shape x.shape) entries j f h.0 at')
+    subst (λ (x : Entry). Before x.shape f.shape) (same_Some g e at)
+    (Every-at (λ (x : Entry). Before g.shape x.shape) entries j f h.0 at')
 rise_at (g ∷ entries) h (suc i) zero e f lt at at' = absurd (omega arith)
 rise_at (g ∷ entries) h (suc i) (suc j) e f lt at at' = rise_at entries h.1 i j e f (let lower : i < j = omega arith in lower) at at'
 

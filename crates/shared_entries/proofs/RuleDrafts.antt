@@ -21,7 +21,8 @@ use Rattle.shared_entries.proofs.ChangedSolving.{changed_draft, draft_by_rule, n
 abbrev pub move_below : PartRule → Move → Behaviour → Option Move
 move_below rule m target =
     if rule.applies m.label
-    then Some (record { label = rule.label m.label; target = target; asked = m.asked; sorts = m.sorts }) else None
+    then Some (record { label = rule.label m.label; target = target; asked = m.asked; sorts = m.sorts })
+    else None
 
 -- The row makes of each move what the rule does; only the target is its own.
 pub record IsRow (rule : PartRule) (row : Move → Option Move) : Type 0 where
@@ -49,11 +50,13 @@ module _ (data_ : Data) (rule : PartRule) (fair : IsFair data_.signature rule) (
       ≡ option_and_then (draft_by_rule rule) (option_map (draft_by s base) o)
   rule_draft None = refl
   rule_draft (Some m) =
-      ap (option_map (draft_by (rule.variant s) base)) (is_row.is m) ∙ same_choice (rule.applies m.label) (rule.applies (draft_by s base
-      m).label) (record { label = rule.label m.label; target = is_row.target m; asked = m.asked; sorts = m.sorts }) (changed_draft rule
-      (draft_by s base m)) (sym (fair.by_kind (draft_by s base m).label m.label (renamed_kind data_.signature _ m.label))) (ap (λ (label :
-      Label). record (changed_draft rule (draft_by s base m)) { label = label }) (natural_with data_.signature rule fair (numbered_from_zero
-      base) m.label))
+      ap (option_map (draft_by (rule.variant s) base)) (is_row.is m)
+      ∙ same_choice (rule.applies m.label) (rule.applies (draft_by s base m).label)
+      (record { label = rule.label m.label; target = is_row.target m; asked = m.asked; sorts = m.sorts })
+      (changed_draft rule (draft_by s base m))
+      (sym (fair.by_kind (draft_by s base m).label m.label (renamed_kind data_.signature _ m.label)))
+      (ap (λ (label : Label). record (changed_draft rule (draft_by s base m)) { label = label })
+      (natural_with data_.signature rule fair (numbered_from_zero base) m.label))
 
 -- ---- Behaviours and their parts
 
@@ -74,8 +77,10 @@ module _ (data_ : Data) (canon : Term → Term) (specification : Specification) 
   moves_by rule whole part row fair is_row over le moves = record {
     fair = fair;
     over = over;
-    drafts = λ s. ap (option_map (draft_by (rule.variant s) (first_apart specification.processes whole))) (moves s) ∙ (rule_draft data_ rule
-        fair row is_row (first_apart specification.processes whole) s (open_move data_ canon specification.processes (first_apart
-        specification.processes whole) s 0 part) ∙ sym (ap (option_and_then (draft_by_rule rule)) (same_drafts data_ canon specification
-        part over (first_apart specification.processes whole) s le)));
+    drafts = λ s.
+        ap (option_map (draft_by (rule.variant s) (first_apart specification.processes whole))) (moves s)
+        ∙ (rule_draft data_ rule fair row is_row (first_apart specification.processes whole) s
+        (open_move data_ canon specification.processes (first_apart specification.processes whole) s 0 part)
+        ∙ sym (ap (option_and_then (draft_by_rule rule))
+        (same_drafts data_ canon specification part over (first_apart specification.processes whole) s le)));
   }

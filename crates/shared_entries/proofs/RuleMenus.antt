@@ -71,7 +71,8 @@ module _ (data_ : Data) (canon : Term → Term) (specification : Specification) 
     comes_from s made f =
         let d = chained (draft_by_rule rule) (draft_of data_ canon specification.processes s part) (sym (moves.drafts s) ∙ f.drafted) in
         let test = tested (rule.applies d.0.label) (changed_draft rule d.0) d.2 in
-        let o = solving_any.outcome data_ canon d.0 moves.over.is_canon (form_order data_ canon specification part s d.0 moves.over d.1) in
+        let o = solving_any.outcome data_ canon d.0 moves.over.is_canon
+        (form_order data_ canon specification part s d.0 moves.over d.1) in
         by_outcome s made d.0 d.1 test.0 (subst (λ (x : Draft). SolvesTo canon x (Some made)) (sym test.1) f.solves) o.0 o.1
 
     pub carries : Carries rule whole part

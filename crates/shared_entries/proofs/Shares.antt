@@ -36,9 +36,12 @@ module _ (data_ : Data) (canon : Term → Term) (specification : Specification) 
       → (entries : List Entry) → IsMenu data_ canon specification part entries
       → IsShare whole (IsBelow rule.variant) (all_by_rule rule entries)
   rule_share rule whole part carries entries menu = record {
-    rising = rising_filter_map (by_rule rule) entry_shape entry_shape (λ x x' y y' e e' before. subst (λ (z : Entry). Before z.shape
-        y'.shape) (tested (rule.applies x.label) (changed rule x) e).1 (subst (λ (z : Entry). Before (rule.variant x.shape) z.shape) (tested
-        (rule.applies x'.label) (changed rule x') e').1 (carries.keeps x.shape x'.shape before))) entries menu.rising;
+    rising = rising_filter_map (by_rule rule) entry_shape entry_shape
+        (λ x x' y y' e e' before.
+        subst (λ (z : Entry). Before z.shape y'.shape) (tested (rule.applies x.label) (changed rule x) e).1
+        (subst (λ (z : Entry). Before (rule.variant x.shape) z.shape) (tested (rule.applies x'.label) (changed rule x') e').1
+        (carries.keeps x.shape x'.shape before)))
+        entries menu.rising;
     sound = λ e a.
         let from : CameFrom (by_rule rule) entries e = from_filter_map (by_rule rule) entries e a in
         let form : IsSolvedForm data_ canon specification whole (rule.variant from.origin.shape) e =

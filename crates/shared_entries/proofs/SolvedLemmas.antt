@@ -47,13 +47,15 @@ module _ (canon : Term → Term) where
   pub one_more : (earlier later : List Item) (draft : plain.Draft) (o : Option Entry)
       → map plain_item later ≡ map plain_item earlier ++ option_to_list o → SolvesTo canon draft o
       → SolvesMore canon earlier later (draft ∷ [])
-  one_more earlier later draft o e solves = λ drafts h. subst (λ (es : List Entry). AllSolveTo canon (drafts ++ draft ∷ []) es) (sym e)
+  one_more earlier later draft o e solves = λ drafts h.
+      subst (λ (es : List Entry). AllSolveTo canon (drafts ++ draft ∷ []) es) (sym e)
       (solved_append (draft ∷ []) (option_to_list o) h (one_solved draft o solves))
 
   pub more_in_turn : (first next last : List Item) (xs ys : List plain.Draft) → SolvesMore canon first next xs
       → SolvesMore canon next last ys → SolvesMore canon first last (xs ++ ys)
-  more_in_turn first next last xs ys h k = λ drafts solved. subst (λ (ds : List plain.Draft). AllSolveTo canon ds (map plain_item last))
-      (append_assoc drafts xs ys) (k (drafts ++ xs) (h drafts solved))
+  more_in_turn first next last xs ys h k = λ drafts solved.
+      subst (λ (ds : List plain.Draft). AllSolveTo canon ds (map plain_item last)) (append_assoc drafts xs ys)
+      (k (drafts ++ xs) (h drafts solved))
 
   -- from nothing
   pub all_more : (later : List Item) (drafts : List plain.Draft) → SolvesMore canon [] later drafts
@@ -89,8 +91,9 @@ module _ (data_ : Data) (meet : SynchronisationSet) (left : Entry) where
       → joins_of data_ meet left (right ∷ rights)
       ≡ option_to_list (join_of_drafts data_.signature (as_draft left) (as_draft right)) ++ joins_of data_ meet left rights
   join_here right rights e =
-      ap (λ (b : Bool). cons_option (if b then join_of_drafts data_.signature (as_draft left) (as_draft right) else None) (joins_of data_
-      meet left rights)) e ∙ list_cons (join_of_drafts data_.signature (as_draft left) (as_draft right)) (joins_of data_ meet left rights)
+      ap (λ (b : Bool). cons_option (if b then join_of_drafts data_.signature (as_draft left) (as_draft right) else None)
+      (joins_of data_ meet left rights)) e
+      ∙ list_cons (join_of_drafts data_.signature (as_draft left) (as_draft right)) (joins_of data_ meet left rights)
 
 -- labels that are not alike have no join
 pub unlike : (signature : Signature) (left right : plain.Draft) (l r : Label) → left.label ≡ label_of l → right.label ≡ label_of r
@@ -111,9 +114,10 @@ module _ (canon : Term → Term) (data_ : Data) (meet : SynchronisationSet) wher
       → IsHalfSolved canon earlier next (joins_of data_ meet left (map plain_item (drop (i + 1) rights))) whole
   joins_more left rights i right earlier now next whole e within is solved half =
       half_next canon earlier now next (option_to_list (join_of_drafts data_.signature (as_draft left) (as_draft (plain_item right))))
-      (joins_of data_ meet left (map plain_item (drop (i + 1) rights))) whole (subst (λ (ds : List plain.Draft). IsHalfSolved canon earlier
-      now ds whole) (ap (λ (xs : List Item). joins_of data_ meet left (map plain_item xs)) (next_member rights i right within is) ∙
-      join_here data_ meet left (plain_item right) (map plain_item (drop (i + 1) rights)) e) half) solved
+      (joins_of data_ meet left (map plain_item (drop (i + 1) rights))) whole
+      (subst (λ (ds : List plain.Draft). IsHalfSolved canon earlier now ds whole)
+      (ap (λ (xs : List Item). joins_of data_ meet left (map plain_item xs)) (next_member rights i right within is)
+      ∙ join_here data_ meet left (plain_item right) (map plain_item (drop (i + 1) rights)) e) half) solved
 
   pub joins_end : (left : Entry) (rights : List Item) (i : ℕ) (earlier now : List Item) (whole : List plain.Draft) → length rights ≤ i
       → IsHalfSolved canon earlier now (joins_of data_ meet left (map plain_item (drop i rights))) whole
@@ -128,9 +132,10 @@ module _ (canon : Term → Term) (data_ : Data) (meet : SynchronisationSet) wher
       → IsHalfSolved canon earlier now (joins data_ meet (map plain_item (drop i lefts)) rights) whole
       → IsHalfSolved canon earlier next (joins data_ meet (map plain_item (drop (i + 1) lefts)) rights) whole
   lefts_more lefts i left rights earlier now next whole within is solved half =
-      half_next canon earlier now next (joins_of data_ meet (plain_item left) rights) (joins data_ meet (map plain_item (drop (i + 1)
-      lefts)) rights) whole (subst (λ (ds : List plain.Draft). IsHalfSolved canon earlier now ds whole) (ap (λ (xs : List Item). joins data_
-      meet (map plain_item xs) rights) (next_member lefts i left within is)) half) solved
+      half_next canon earlier now next (joins_of data_ meet (plain_item left) rights)
+      (joins data_ meet (map plain_item (drop (i + 1) lefts)) rights) whole
+      (subst (λ (ds : List plain.Draft). IsHalfSolved canon earlier now ds whole)
+      (ap (λ (xs : List Item). joins data_ meet (map plain_item xs) rights) (next_member lefts i left within is)) half) solved
 
   pub lefts_end : (lefts : List Item) (i : ℕ) (rights : List Entry) (now : List Item) (whole : List plain.Draft) → length lefts ≤ i
       → IsHalfSolved canon [] now (joins data_ meet (map plain_item (drop i lefts)) rights) whole

@@ -34,7 +34,9 @@ module _ (data_ : Data) (processes : List Process) (b : Behaviour) where
     pub alone : (values : List Term) → Meets data_ entry values → values ≡ []
     pub there : HasTransition entry.label
     pub only :
-        (d : Derivation) (label : Label) (target : Behaviour) → Derives data_ processes b d label target → d.shape ≡ entry.shape →
+        (d : Derivation) (label : Label) (target : Behaviour) →
+        Derives data_ processes b d label target →
+        d.shape ≡ entry.shape →
         EqualLabels data_ entry.label label × EqualTerms data_ entry.leaves d.leaves
 
 -- an entry without variables and conditions
@@ -47,21 +49,31 @@ pub record InstancesAreTransitions : Type 0 where
   pub sound :
       (data_ : Data) (canon : Term → Term) (processes : List Process) (b : Behaviour) (entries : List Entry) →
       Exact data_ canon processes b entries →
-      (entry : Entry) (values : List Term) → IsEntry entries entry → Meets data_ entry values →
+      (entry : Entry) (values : List Term) →
+      IsEntry entries entry →
+      Meets data_ entry values →
       HasTransition data_ processes b (label_at entry values)
   -- and each transition comes so
   pub complete :
       (data_ : Data) (canon : Term → Term) (processes : List Process) (b : Behaviour) (entries : List Entry) →
       Exact data_ canon processes b entries →
-      (label : Label) (target : Behaviour) → Transition data_ processes b label target → HasInstance data_ processes b entries label
+      (label : Label) (target : Behaviour) →
+      Transition data_ processes b label target →
+      HasInstance data_ processes b entries label
 
 abbrev pub PlainEntriesAreOneTransition : Type 0
 PlainEntriesAreOneTransition =
     (data_ : Data) (canon : Term → Term) (processes : List Process) (b : Behaviour) (entries : List Entry) →
     Exact data_ canon processes b entries →
-    (entry : Entry) → IsEntry entries entry → IsPlain entry → HasOneInstance data_ processes b entry
+    (entry : Entry) →
+    IsEntry entries entry →
+    IsPlain entry →
+    HasOneInstance data_ processes b entry
 
 abbrev pub EmptyMenusMeanNoTransition : Type 0
 EmptyMenusMeanNoTransition =
-    (data_ : Data) (canon : Term → Term) (processes : List Process) (b : Behaviour) → Exact data_ canon processes b [] →
-    (label : Label) (target : Behaviour) → Transition data_ processes b label target → ⊥
+    (data_ : Data) (canon : Term → Term) (processes : List Process) (b : Behaviour) →
+    Exact data_ canon processes b [] →
+    (label : Label) (target : Behaviour) →
+    Transition data_ processes b label target →
+    ⊥

@@ -18,39 +18,53 @@ use Rattle.shared_entries.specs.PartMenus.{sides_menu, hide_menu, relabel_menu, 
 pub record MakeTheMenu (data_ : Data) (canon : Term → Term) (specification : Specification) : Type 0 where
   pub of_stop : AreOver data_ canon specification stop → Exact data_ canon specification.processes stop []
   pub of_guard_that_holds :
-      (test : Test) (b : Behaviour) (entries : List Entry) → AreOver data_ canon specification (guard test b) →
-      canon test.left ≡ canon test.right → Exact data_ canon specification.processes b entries →
+      (test : Test) (b : Behaviour) (entries : List Entry) →
+      AreOver data_ canon specification (guard test b) →
+      canon test.left ≡ canon test.right →
+      Exact data_ canon specification.processes b entries →
       Exact data_ canon specification.processes (guard test b) (all_by_rule (passing_on guarded) entries)
   pub of_guard_that_fails :
-      (test : Test) (b : Behaviour) → AreOver data_ canon specification (guard test b) → canon test.left ≢ canon test.right →
+      (test : Test) (b : Behaviour) →
+      AreOver data_ canon specification (guard test b) →
+      canon test.left ≢ canon test.right →
       Exact data_ canon specification.processes (guard test b) []
   pub of_choice :
-      (b c : Behaviour) (lefts rights : List Entry) → AreOver data_ canon specification (choice b c) →
-      Exact data_ canon specification.processes b lefts → Exact data_ canon specification.processes c rights →
+      (b c : Behaviour) (lefts rights : List Entry) →
+      AreOver data_ canon specification (choice b c) →
+      Exact data_ canon specification.processes b lefts →
+      Exact data_ canon specification.processes c rights →
       Exact data_ canon specification.processes (choice b c) (sides_menu lefts rights)
   pub of_parallel :
       (meet : SynchronisationSet) (b c : Behaviour) (lefts rights boths : List Entry) →
-      AreOver data_ canon specification (parallel meet b c) → Exact data_ canon specification.processes b lefts →
-      Exact data_ canon specification.processes c rights → AllSolveTo canon (joins data_ meet lefts rights) boths →
+      AreOver data_ canon specification (parallel meet b c) →
+      Exact data_ canon specification.processes b lefts →
+      Exact data_ canon specification.processes c rights →
+      AllSolveTo canon (joins data_ meet lefts rights) boths →
       Exact data_ canon specification.processes (parallel meet b c) (parallel_menu meet lefts rights boths)
   pub of_hide :
-      (gates : List ℕ) (b : Behaviour) (entries : List Entry) → AreOver data_ canon specification (hide gates b) →
+      (gates : List ℕ) (b : Behaviour) (entries : List Entry) →
+      AreOver data_ canon specification (hide gates b) →
       Exact data_ canon specification.processes b entries →
       Exact data_ canon specification.processes (hide gates b) (hide_menu gates entries)
   pub of_enable :
       (b : Behaviour) (variables : List Variable) (c : Behaviour) (entries : List Entry) →
-      AreOver data_ canon specification (enable b variables c) → Exact data_ canon specification.processes b entries →
+      AreOver data_ canon specification (enable b variables c) →
+      Exact data_ canon specification.processes b entries →
       Exact data_ canon specification.processes (enable b variables c) (enable_menu data_.signature variables entries)
   pub of_disable :
-      (b c : Behaviour) (lefts rights : List Entry) → AreOver data_ canon specification (disable b c) →
-      Exact data_ canon specification.processes b lefts → Exact data_ canon specification.processes c rights →
+      (b c : Behaviour) (lefts rights : List Entry) →
+      AreOver data_ canon specification (disable b c) →
+      Exact data_ canon specification.processes b lefts →
+      Exact data_ canon specification.processes c rights →
       Exact data_ canon specification.processes (disable b c) (sides_menu lefts rights)
   pub of_let :
-      (bindings : List (Variable × Term)) (b : Behaviour) (entries : List Entry) → AreOver data_ canon specification (let_be bindings b) →
+      (bindings : List (Variable × Term)) (b : Behaviour) (entries : List Entry) →
+      AreOver data_ canon specification (let_be bindings b) →
       Exact data_ canon specification.processes (let_body canon bindings b) entries →
       Exact data_ canon specification.processes (let_be bindings b) (all_by_rule (passing_on let_bound) entries)
   pub of_gate_choice :
-      (g : ℕ) (gates : List ℕ) (b : Behaviour) (entries : List Entry) → AreOver data_ canon specification (choose_gate g gates b) →
+      (g : ℕ) (gates : List ℕ) (b : Behaviour) (entries : List Entry) →
+      AreOver data_ canon specification (choose_gate g gates b) →
       Exact data_ canon specification.processes b entries →
       Exact data_ canon specification.processes (choose_gate g gates b) (gates_menu g 0 gates entries)
   pub of_gate_par :
@@ -60,11 +74,13 @@ pub record MakeTheMenu (data_ : Data) (canon : Term → Term) (specification : S
       Exact data_ canon specification.processes (par_gate g gates meet b) entries
   pub of_call :
       (number : ℕ) (gates : List ℕ) (arguments : List Term) (process : Process) (entries : List Entry) →
-      AreOver data_ canon specification (call number gates arguments) → slice_get specification.processes number ≡ Some process →
+      AreOver data_ canon specification (call number gates arguments) →
+      slice_get specification.processes number ≡ Some process →
       Exact data_ canon specification.processes (called_body canon process arguments) entries →
       Exact data_ canon specification.processes (call number gates arguments) (call_menu (zip process.gates gates) entries)
   pub of_relabelling :
-      (pairs : Relabelling) (b : Behaviour) (entries : List Entry) → AreOver data_ canon specification (relabel pairs b) →
+      (pairs : Relabelling) (b : Behaviour) (entries : List Entry) →
+      AreOver data_ canon specification (relabel pairs b) →
       Exact data_ canon specification.processes b entries →
       Exact data_ canon specification.processes (relabel pairs b) (relabel_menu pairs entries)
 

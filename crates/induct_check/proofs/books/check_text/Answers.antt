@@ -18,16 +18,21 @@ check_lemmas-requires-clause-rules_of c =
 
 pub returns-clause-certified : goal.returns-clause-certified
 returns-clause-certified c =
-    IfOk-weaker c.check_lemmas.result _ _ (λ lemmas h. subst (λ theory. IsCertifiedText theory c.args.text.now (lemmas_in lemmas.items))
+    IfOk-weaker c.check_lemmas.result _ _
+    (λ lemmas h. subst (λ theory. IsCertifiedText theory c.args.text.now (lemmas_in lemmas.items))
     (theory_of_book c.args.book.now c.in_ok-rules.rules (c.in_ok-rules.ensures.rules ∙ ap rules_in c.rules.ensures)) h)
     c.check_lemmas.ensures.certified
 
 pub returns-clause-refused : goal.returns-clause-refused
 returns-clause-refused c =
-    IfErr-weaker c.check_lemmas.result _ _ (λ at h. subst (λ theory. HoldsAtLine (IsTextFault theory c.args.text.now) at) (theory_of_book
-    c.args.book.now c.in_ok-rules.rules (c.in_ok-rules.ensures.rules ∙ ap rules_in c.rules.ensures)) h) c.check_lemmas.ensures.refused
+    IfErr-weaker c.check_lemmas.result _ _
+    (λ at h. subst (λ theory. HoldsAtLine (IsTextFault theory c.args.text.now) at)
+    (theory_of_book c.args.book.now c.in_ok-rules.rules (c.in_ok-rules.ensures.rules ∙ ap rules_in c.rules.ensures)) h)
+    c.check_lemmas.ensures.refused
 
 pub returns-clause-known : goal.returns-clause-known
 returns-clause-known c =
-    IfOk-weaker c.check_lemmas.result _ _ (λ lemmas h. subst (λ (signature : Signature). Each (IsKnownLemma signature) lemmas.items)
-    (c.in_ok-signature.ensures ∙ ap (λ flat. (data_of flat).signature) c.flat.ensures) h) c.check_lemmas.ensures.known
+    IfOk-weaker c.check_lemmas.result _ _
+    (λ lemmas h. subst (λ (signature : Signature). Each (IsKnownLemma signature) lemmas.items)
+    (c.in_ok-signature.ensures ∙ ap (λ flat. (data_of flat).signature) c.flat.ensures) h)
+    c.check_lemmas.ensures.known

@@ -13,4 +13,5 @@ pub returns : goal.returns
 returns c =
     c.use_from.ensures
     ∙ (same_use _ _ _ _ _ _ _ _ c.source_named.ensures c.side_named.ensures c.in_ok-path.ensures c.direction_named.ensures
-    ∙ sym (ap use_by (five_words (λ word. word.now) c.args.words.now (record { ref_ptr = (0, 0); now = [] }) c.if-words-ne5.false)))
+    ∙ sym (ap use_by (five_words (λ word. word.now) c.args.words.now (record { ref_ptr = (0, 0); now = [] })
+    c.if-words-ne5.false)))

@@ -8,6 +8,7 @@ use Rattle.induct_check.proofs.names.cases_by.Given as goal
 
 abbrev pub invariant-loop-operation : goal.invariant-loop-operation
 invariant-loop-operation l =
-    IsMadeSoFar (listed_makes (named_behind (named_case_in l.point) (spelling l.name)) l.operations) (known_signature l.known).operations
-    (cases_by (known_signature l.known) (named_case_in l.point) (spelling l.name) (Some l.operations)) l.operation (named_cases_in
-    l.made.items)
+    IsMadeSoFar (listed_makes (named_behind (named_case_in l.point) (spelling l.name)) l.operations)
+    (known_signature l.known).operations
+    (cases_by (known_signature l.known) (named_case_in l.point) (spelling l.name) (Some l.operations))
+    l.operation (named_cases_in l.made.items)

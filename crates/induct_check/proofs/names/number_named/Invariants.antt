@@ -5,4 +5,5 @@ use Rattle.induct_check.proofs.names.number_named.Given as goal
 
 abbrev pub invariant-loop-number : goal.invariant-loop-number
 invariant-loop-number l =
-    number_named (map spelling l.names) (spelling l.name) ≡ l.number + number_named (map spelling (drop l.number l.names)) (spelling l.name)
+    number_named (map spelling l.names) (spelling l.name)
+    ≡ l.number + number_named (map spelling (drop l.number l.names)) (spelling l.name)

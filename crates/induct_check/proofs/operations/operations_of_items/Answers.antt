@@ -13,19 +13,16 @@ returns-then-is_empty c = λ fs lists.
     nil_from_length c.in_ok-found.found.items (grind
     (arith, nat_tests, c.in_ok-found.found.ok.0, c.is_empty.ensures, c.if-is_empty.true)) in
     items_nothing (known_signature c.args.known.now) c.args.items.now c.loop-item.item-index c.item-item.result fs c.loop-item.made.items
-    c.loop-item-test.true c.item-item.is c.loop-item.invariant (subst (λ xs. ItemGives (known_signature c.args.known.now)
-    (listed_operation_of c.item-item.result) xs) none c.in_ok-found.ensures) lists
+    c.loop-item-test.true c.item-item.is c.loop-item.invariant
+    (subst (λ xs. ItemGives (known_signature c.args.known.now) (listed_operation_of c.item-item.result) xs) none c.in_ok-found.ensures)
+    lists
 
 pub loop-item-preserved : goal.loop-item-preserved
 loop-item-preserved c =
     items_more (known_signature c.args.known.now) c.args.items.now c.loop-item.item-index c.item-item.result c.in_ok-found.found.items
-    c.loop-item.made.items c.extend_from_slice.new.self.items (λ none. grind (
-      arith,
-      nat_tests,
-      c.in_ok-found.found.ok.0,
-      c.is_empty.ensures,
-      c.if-is_empty.false,
-    )) c.loop-item-test.true c.item-item.is c.loop-item.invariant c.in_ok-found.ensures
+    c.loop-item.made.items c.extend_from_slice.new.self.items
+    (λ none. grind (arith, nat_tests, c.in_ok-found.found.ok.0, c.is_empty.ensures, c.if-is_empty.false))
+    c.loop-item-test.true c.item-item.is c.loop-item.invariant c.in_ok-found.ensures
     (c.in_ok-extend_from_slice.ensures.items ∙ ap (λ xs. c.loop-item.made.items ++ xs) c.as_slice.ensures.value)
 
 pub returns : goal.returns

@@ -14,11 +14,13 @@ pub returns : goal.returns
 returns c =
     let signature = known_signature c.args.known.now in
     elim c.match-form.branch [
-      | in-Right w ↦ moved signature _ (right_task (map variable_of c.args.variables.now) (written_term_of c.args.left.now) (form_in
-          c.args.form)) w.right_piece.result c.match-form.result (sym (ap (λ f. right_task (map variable_of c.args.variables.now)
-          (written_term_of c.args.left.now) (form_in f)) w.in-Right.is)) w.result-is w.right_piece.ensures
-      | in_default w ↦ moved signature (right_task (map variable_of c.args.variables.now) (written_term_of c.args.left.now) (form_in
-          c.args.form)) (right_task (map variable_of c.args.variables.now) (written_term_of c.args.left.now) (form_in c.args.form)) (Ok
-          Nothing) c.match-form.result refl w.result-is (none_behind_left signature (map variable_of c.args.variables.now) (written_term_of
-          c.args.left.now) c.args.form w.in_default.not-Right)
+      | in-Right w ↦ moved signature _ (right_task (map variable_of c.args.variables.now) (written_term_of c.args.left.now)
+          (form_in c.args.form)) w.right_piece.result c.match-form.result
+          (sym (ap (λ f. right_task (map variable_of c.args.variables.now) (written_term_of c.args.left.now)
+          (form_in f)) w.in-Right.is)) w.result-is w.right_piece.ensures
+      | in_default w ↦ moved signature (right_task (map variable_of c.args.variables.now) (written_term_of c.args.left.now)
+          (form_in c.args.form)) (right_task (map variable_of c.args.variables.now) (written_term_of c.args.left.now) (form_in c.args.form))
+          (Ok Nothing) c.match-form.result refl w.result-is
+          (none_behind_left signature (map variable_of c.args.variables.now)
+          (written_term_of c.args.left.now) c.args.form w.in_default.not-Right)
     ]

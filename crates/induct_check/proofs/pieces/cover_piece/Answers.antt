@@ -10,10 +10,11 @@ use Rattle.induct_check.proofs.pieces.cover_piece.Goals as goal
 
 pub returns-in_default : goal.returns-in_default
 returns-in_default c =
-    no_cover_sort (known_signature c.args.known.now) c.args.sort.now c.args.items.now (λ s named. match_none_at _ _ c.in_ok-number.field-0
-    c.in_default.is c.in_ok-number.ensures s (subst (λ signature. IsSortNamed signature s (spelling c.of-name.result)) (sym
-    c.requires.reader) (subst (λ name. IsSortNamed (known_signature c.args.known.now) s name) (sym (c.of-name.ensures ∙
-    c.in_ok-from_slice.ensures.items)) named)))
+    no_cover_sort (known_signature c.args.known.now) c.args.sort.now c.args.items.now
+    (λ s named. match_none_at _ _ c.in_ok-number.field-0 c.in_default.is c.in_ok-number.ensures s
+    (subst (λ signature. IsSortNamed signature s (spelling c.of-name.result)) (sym c.requires.reader)
+    (subst (λ name. IsSortNamed (known_signature c.args.known.now) s name)
+    (sym (c.of-name.ensures ∙ c.in_ok-from_slice.ensures.items)) named)))
 
 pub returns-in_default-2 : goal.returns-in_default-2
 returns-in_default-2 c =

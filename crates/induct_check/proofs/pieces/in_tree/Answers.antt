@@ -25,6 +25,7 @@ returns c =
           (sym (ap (λ f. in_tree_task signature covers left (form_in f)) w.in-Lemma.is)) w.result-is w.variables_piece.ensures
       | in-Leaf w ↦ moved signature _ task w.first_line.result c.match-form.result
           (sym (ap (λ f. in_tree_task signature covers left (form_in f)) w.in-Leaf.is)) w.result-is w.first_line.ensures
-      | in_default w ↦ moved signature task task (Ok Nothing) c.match-form.result refl w.result-is (none_in_tree signature covers left
-          c.args.form w.in_default.not-Tree w.in_default.not-Split w.in_default.not-Lemma w.in_default.not-Leaf)
+      | in_default w ↦ moved signature task task (Ok Nothing) c.match-form.result refl w.result-is
+          (none_in_tree signature covers left c.args.form w.in_default.not-Tree w.in_default.not-Split w.in_default.not-Lemma
+          w.in_default.not-Leaf)
     ]

@@ -12,8 +12,9 @@ use Rattle.induct_check.proofs.pieces.right_piece.Goals as goal
 
 pub returns-in_default : goal.returns-in_default
 returns-in_default c =
-    no_right_side (known_signature c.args.known.now) (map variable_of c.args.variables.now) (written_term_of c.args.left.now)
-    c.args.term.now (match_none_at _ _ c.in_ok-right.field-0 c.in_default.is c.in_ok-right.ensures)
+    no_right_side (known_signature c.args.known.now) (map variable_of c.args.variables.now)
+    (written_term_of c.args.left.now) c.args.term.now
+    (match_none_at _ _ c.in_ok-right.field-0 c.in_default.is c.in_ok-right.ensures)
 
 pub returns : goal.returns
 returns c =
@@ -26,8 +27,9 @@ returns c =
       gives_lemma signature variables copies (written_term_of c.args.left.now) (written_term_of c.in-Some.right) c.args.term.now statement
           c.in_ok-copies.ensures side sides.0,
       (
-        subst (λ vs. IsStated signature (stated_lemma vs statement)) (sym c.in_ok-copies.ensures) (sides_stated signature variables
-            (written_term_of c.args.left.now) (written_term_of c.in-Some.right) statement c.requires.variables sides.0),
+        subst (λ vs. IsStated signature (stated_lemma vs statement)) (sym c.in_ok-copies.ensures)
+            (sides_stated signature variables (written_term_of c.args.left.now) (written_term_of c.in-Some.right) statement
+            c.requires.variables sides.0),
         sides.1,
       ),
     )

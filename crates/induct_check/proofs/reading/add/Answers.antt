@@ -13,9 +13,10 @@ returns-in_ok-push-in-Cover-clause-known c = λ known piece.
     let old = c.args.reading.now.certificate.covers.items in
     record {
       certificate = record { trees = known.certificate.trees; lemmas = known.certificate.lemmas };
-      covers = subst (λ (covers : List Cover). CoversHaveResults signature covers) (sym (pushed cover_in old c.push-in-Cover.new.self.items
-          c.in-Cover.cover c.in_ok-push-in-Cover.ensures.items)) (results_with signature (covers_in old) (cover_in c.in-Cover.cover)
-          known.covers (subst (IsKnownPiece signature) c.in-Cover.is piece));
+      covers = subst (λ (covers : List Cover). CoversHaveResults signature covers)
+          (sym (pushed cover_in old c.push-in-Cover.new.self.items c.in-Cover.cover c.in_ok-push-in-Cover.ensures.items))
+          (results_with signature (covers_in old) (cover_in c.in-Cover.cover) known.covers
+          (subst (IsKnownPiece signature) c.in-Cover.is piece));
       part = tt;
     }
 
@@ -34,7 +35,8 @@ returns-in_ok-replace_pattern-in-TreeLine-clause-known c = λ known piece.
         lemmas = known.certificate.lemmas;
       };
       covers = known.covers;
-      part = c.in_ok-replace_pattern-in-TreeLine.ensures.known signature known.part (subst (IsKnownPiece signature) c.in-TreeLine.is piece);
+      part = c.in_ok-replace_pattern-in-TreeLine.ensures.known signature known.part
+          (subst (IsKnownPiece signature) c.in-TreeLine.is piece);
     }
 
 pub returns-in_ok-add_proof_line-in-ProofLine-clause-known : goal.returns-in_ok-add_proof_line-in-ProofLine-clause-known

@@ -12,9 +12,10 @@ returns-clause-known c = λ known stated over. record {
   certificate = record {
     trees = known.certificate.trees;
     lemmas = each_pushed (IsKnownLemma (known_signature c.args.known.now)) c.args.reading.now.certificate.lemmas.items
-        c.push-2.new.self.items _ c.in_ok-push-2.ensures.items (newly_known (known_signature c.args.known.now) (map variable_of
-        c.args.variables.items) c.args.statement c.in_ok-sorts.sorts _ (c.in_ok-sorts.ensures ∙ ap (λ vs. map (λ (v : Variable). v.sort)
-        (map variable_of vs)) c.as_slice-2.ensures.value) stated over) known.certificate.lemmas;
+        c.push-2.new.self.items _ c.in_ok-push-2.ensures.items
+        (newly_known (known_signature c.args.known.now) (map variable_of c.args.variables.items) c.args.statement c.in_ok-sorts.sorts _
+        (c.in_ok-sorts.ensures ∙ ap (λ vs. map (λ (v : Variable). v.sort) (map variable_of vs)) c.as_slice-2.ensures.value) stated over)
+        known.certificate.lemmas;
   };
   covers = known.covers;
   part = tt;

@@ -10,5 +10,6 @@ returns-clause-added c =
     (tree_lined c.in-Some.tree c.push.new.self c.args.line c.in_ok-push.ensures.items)
 
 pub returns-clause-known : goal.returns-clause-known
-returns-clause-known c = λ signature each. each_last_put _ c.args.trees.now.items c.pop.new.self.items c.push-2.new.self.items
-    c.in-Some.tree _ c.in-Some.ensures.items c.in_ok-push-2.ensures.items (λ h. h) each
+returns-clause-known c = λ signature each.
+    each_last_put _ c.args.trees.now.items c.pop.new.self.items c.push-2.new.self.items c.in-Some.tree _ c.in-Some.ensures.items
+    c.in_ok-push-2.ensures.items (λ h. h) each

@@ -33,10 +33,11 @@ returns-in-Nothing-clause-read c =
     let h =
     over_covers signature c.as_slice-covers.result.now reading.certificate.covers.items (open_part_in reading.part) (line_form_of line)
     c.in_ok-piece.field-0 outcome.Nothing c.as_slice-covers.ensures.value c.in-Nothing.is c.in_ok-piece.ensures in
-    subst (λ text. LinesReadTo signature 1 nothing_read parts text) (sym c.stopped_at.ensures) (c.loop-number.invariant.comes (stopped_at
-    (reading_in reading) (c.loop-number.number + 1) line) (line_stops parts signature c.loop-number.number line (reading_in reading) (omega
-    (arith, length-map c.args.parts.now (λ part. part.now), c.loop-number.invariant.last, c.loop-number-test.true)) c.part_at-line.ensures
-    h.0 h.1))
+    subst (λ text. LinesReadTo signature 1 nothing_read parts text) (sym c.stopped_at.ensures)
+    (c.loop-number.invariant.comes (stopped_at (reading_in reading) (c.loop-number.number + 1) line)
+    (line_stops parts signature c.loop-number.number line (reading_in reading)
+    (omega (arith, length-map c.args.parts.now (λ part. part.now), c.loop-number.invariant.last, c.loop-number-test.true))
+    c.part_at-line.ensures h.0 h.1))
 
 pub returns-in-WithLeft-clause-read : goal.returns-in-WithLeft-clause-read
 returns-in-WithLeft-clause-read c =
@@ -47,8 +48,9 @@ returns-in-WithLeft-clause-read c =
     let h =
     over_covers signature c.as_slice-covers.result.now reading.certificate.covers.items (open_part_in reading.part) (line_form_of line)
     c.in_ok-piece.field-0 outcome.WithLeft c.as_slice-covers.ensures.value c.in-WithLeft.is c.in_ok-piece.ensures in
-    subst (λ text. LinesReadTo signature 1 nothing_read parts text) (sym c.stopped_at-in-WithLeft.ensures) (c.loop-number.invariant.comes
-    (stopped_at (reading_in reading) c.loop-number.number line) (line_fails parts signature c.loop-number.number line (reading_in reading)
+    subst (λ text. LinesReadTo signature 1 nothing_read parts text) (sym c.stopped_at-in-WithLeft.ensures)
+    (c.loop-number.invariant.comes (stopped_at (reading_in reading) c.loop-number.number line)
+    (line_fails parts signature c.loop-number.number line (reading_in reading)
     (omega (arith, length-map c.args.parts.now (λ part. part.now), c.loop-number.invariant.last, c.loop-number-test.true))
     c.part_at-line.ensures h))
 
@@ -62,13 +64,11 @@ loop-number-preserved c =
     over_covers signature c.as_slice-covers.result.now reading.certificate.covers.items (open_part_in reading.part) (line_form_of line)
     c.in_ok-piece.field-0 (outcome.Piece c.in-Piece.piece) c.as_slice-covers.ensures.value c.in-Piece.is c.in_ok-piece.ensures in
     record {
-      comes = λ text rest. c.loop-number.invariant.comes text (line_read parts signature c.loop-number.number line (reading_in reading)
-          (reading_in c.add.new.reading) (piece_in c.in-Piece.piece) text (omega (
-            arith,
-            length-map c.args.parts.now (λ part. part.now),
-            c.loop-number.invariant.last,
-            c.loop-number-test.true,
-          )) c.part_at-line.ensures h.0 c.in_ok-add-in-Piece.ensures.added rest);
+      comes = λ text rest. c.loop-number.invariant.comes text
+          (line_read parts signature c.loop-number.number line (reading_in reading) (reading_in c.add.new.reading)
+          (piece_in c.in-Piece.piece) text
+          (omega (arith, length-map c.args.parts.now (λ part. part.now), c.loop-number.invariant.last, c.loop-number-test.true))
+          c.part_at-line.ensures h.0 c.in_ok-add-in-Piece.ensures.added rest);
       known = c.in_ok-add-in-Piece.ensures.known c.loop-number.invariant.known h.1;
       last = c.loop-number.invariant.last;
     }
@@ -77,7 +77,9 @@ pub returns-clause-read : goal.returns-clause-read
 returns-clause-read c =
     let signature = known_signature c.args.known.now in
     let parts = map (λ part. part.now) c.args.parts.now in
-    c.loop-number.invariant.comes (stopping c.loop-number.reading c.ended.result) (rest_read parts signature c.loop-number.number _
-    c.part_at.result.now (reading_in c.loop-number.reading) (stopping c.loop-number.reading c.ended.result) c.loop-number.auto.number-end
-    c.loop-number-test.false (omega (arith, length-map c.args.parts.now (λ part. part.now), c.loop-number.invariant.last)) c.part_at.ensures
-    (c.ended.ensures signature))
+    c.loop-number.invariant.comes (stopping c.loop-number.reading c.ended.result)
+    (rest_read parts signature c.loop-number.number _ c.part_at.result.now (reading_in c.loop-number.reading)
+    (stopping c.loop-number.reading c.ended.result)
+    c.loop-number.auto.number-end c.loop-number-test.false
+    (omega (arith, length-map c.args.parts.now (λ part. part.now), c.loop-number.invariant.last))
+    c.part_at.ensures (c.ended.ensures signature))

@@ -7,8 +7,9 @@ use Rattle.induct_check.proofs.reading.read_certificate.Goals as goal
 
 pub read_parts-requires-clause-some : goal.read_parts-requires-clause-some
 read_parts-requires-clause-some c =
-    subst (λ xs. 0 < length xs) (sym c.as_slice.ensures.value) (subst (λ n. 0 < n) (sym (ap length c.in_ok-parts.ensures) ∙ length-map
-    c.in_ok-parts.parts.items (λ part. part.now)) (some_parts 10 c.args.text.now))
+    subst (λ xs. 0 < length xs) (sym c.as_slice.ensures.value)
+    (subst (λ n. 0 < n) (sym (ap length c.in_ok-parts.ensures) ∙ length-map c.in_ok-parts.parts.items (λ part. part.now))
+    (some_parts 10 c.args.text.now))
 
 pub read_parts-requires-clause-short : goal.read_parts-requires-clause-short
 read_parts-requires-clause-short c =

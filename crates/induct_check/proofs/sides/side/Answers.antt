@@ -7,12 +7,17 @@ use Rattle.induct_check.proofs.sides.side.Goals as goal
 
 pub returns-in-Ok : goal.returns-in-Ok
 returns-in-Ok c =
-    IfOk-weaker c.one_side.result _ _ (λ found h. match_more _ _ _ _ found (λ none side is. none side
+    IfOk-weaker c.one_side.result _ _
+    (λ found h. match_more _ _ _ _ found
+    (λ none side is. none side
     (c.texts_have_one_outcome.ensures.terms.one_tree 0 c.args.text.now (map written_term_of c.in-Ok.terms.items) (side ∷ []) c.in-Ok.ensures
-    is.read) is.known) (λ term both. record {
+    is.read) is.known)
+    (λ term both. record {
       read = subst (λ terms. IsTermsReading 0 c.args.text.now terms) both.0 c.in-Ok.ensures;
       known = both.1;
-    }) h) c.one_side.ensures
+    })
+    h)
+    c.one_side.ensures
 
 pub returns-in-Err-TooDeep : goal.returns-in-Err-TooDeep
 returns-in-Err-TooDeep c = λ side is.

@@ -12,5 +12,6 @@ returns-then-same c = (
 
 pub loop-earlier-preserved : goal.loop-earlier-preserved
 loop-earlier-preserved c =
-    one_not_earlier c.args.written.now c.loop-earlier.earlier c.args.number c.index-written-earlier.result c.index-written-number.result
-    c.loop-earlier-test.true c.requires (λ same. not_true c.same.result c.if-same.false (c.same.ensures.1 same)) c.loop-earlier.invariant
+    one_not_earlier c.args.written.now c.loop-earlier.earlier c.args.number c.index-written-earlier.result
+    c.index-written-number.result c.loop-earlier-test.true c.requires
+    (λ same. not_true c.same.result c.if-same.false (c.same.ensures.1 same)) c.loop-earlier.invariant

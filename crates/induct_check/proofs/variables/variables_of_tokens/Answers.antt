@@ -14,5 +14,6 @@ returns-in-CommaOrEnd c =
     (ap awaited_of c.in-CommaOrEnd.is) c.loop-token.invariant
 
 pub returns-in_default : goal.returns-in_default
-returns-in_default c = λ ws are. tokens_open c.args.text.now c.args.tokens.now (read_in c.loop-token.read) c.loop-token.token-index ws
-    c.loop-token-test.false (λ end. c.in_default.not-CommaOrEnd (awaits_end c.loop-token.read.awaited end)) c.loop-token.invariant are
+returns-in_default c = λ ws are.
+    tokens_open c.args.text.now c.args.tokens.now (read_in c.loop-token.read) c.loop-token.token-index ws c.loop-token-test.false
+    (λ end. c.in_default.not-CommaOrEnd (awaits_end c.loop-token.read.awaited end)) c.loop-token.invariant are

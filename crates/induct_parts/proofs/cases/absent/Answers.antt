@@ -7,10 +7,11 @@ use Rattle.induct_parts.proofs.cases.absent.Goals as goal
 
 pub loop-number-preserved : goal.loop-number-preserved
 loop-number-preserved c =
-    one_more (absent_from (statement_of c.args.statement.now)) (if_absent (statement_of c.args.statement.now)) c.args.sorts.now (absent_from
-    (statement_of c.args.statement.now) 0 c.args.sorts.now) (absent_first (statement_of c.args.statement.now)) c.loop-number.number (get_or
-    c.args.sorts.now c.loop-number.number 0) c.loop-number.gone.items c.add_if_absent.new.gone.items c.loop-number-test.true (read_at
-    c.args.sorts.now c.loop-number.number c.loop-number-test.true) c.in_ok-add_if_absent.ensures c.loop-number.invariant
+    one_more (absent_from (statement_of c.args.statement.now)) (if_absent (statement_of c.args.statement.now)) c.args.sorts.now
+    (absent_from (statement_of c.args.statement.now) 0 c.args.sorts.now) (absent_first (statement_of c.args.statement.now))
+    c.loop-number.number (get_or c.args.sorts.now c.loop-number.number 0) c.loop-number.gone.items c.add_if_absent.new.gone.items
+    c.loop-number-test.true (read_at c.args.sorts.now c.loop-number.number c.loop-number-test.true) c.in_ok-add_if_absent.ensures
+    c.loop-number.invariant
 
 pub returns : goal.returns
 returns c =

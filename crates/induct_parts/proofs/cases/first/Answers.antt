@@ -32,7 +32,8 @@ returns-clause-known g c =
       hypotheses = c.new.result;
       goal = c.in_ok-goal.goal;
     } in
-    first_is_known c.args.setting.now data_ canon c.args.lemma.now point c.requires.set c.requires.known (same_case (case_in point)
-    (first_case theory (lemma_in c.args.lemma.now)) (c.in_ok-sorts.ensures.items ∙ c.as_slice.ensures.value) (c.in_ok-gone.ensures ∙ ap
-    (absent_from (statement_of c.args.lemma.now.statement) 0) c.as_slice-2.ensures.value) (ap (map statement_of) c.new.ensures.items)
-    c.in_ok-goal.ensures.made) c.new.ensures.items (c.in_ok-goal.ensures.over _ c.requires.set.signature)
+    first_is_known c.args.setting.now data_ canon c.args.lemma.now point c.requires.set c.requires.known
+    (same_case (case_in point) (first_case theory (lemma_in c.args.lemma.now)) (c.in_ok-sorts.ensures.items ∙ c.as_slice.ensures.value)
+    (c.in_ok-gone.ensures ∙ ap (absent_from (statement_of c.args.lemma.now.statement) 0) c.as_slice-2.ensures.value)
+    (ap (map statement_of) c.new.ensures.items) c.in_ok-goal.ensures.made)
+    c.new.ensures.items (c.in_ok-goal.ensures.over _ c.requires.set.signature)

@@ -30,8 +30,9 @@ returns-in_err-check_covers-clause-refused g c =
     c.as_slice-covers.ensures.value c.as_slice-trees.ensures.value c.as_slice-lemmas.ensures.value in
     let at = c.in_err-check_covers.field-0.0 in
     handed_on (HoldsAtLine (IsInductionFault (known_theory data_ c.args.rules.now canon) (certificate_in c.args.certificate.now)))
-    c.from_residual.result at c.from_residual.ensures.1 (fault_known setting data_ canon c.requires.same_signature c.args.certificate.now
-    other same at (covers_fault (theory_in setting data_ canon) other at c.in_err-check_covers.ensures.wrong))
+    c.from_residual.result at c.from_residual.ensures.1
+    (fault_known setting data_ canon c.requires.same_signature c.args.certificate.now other same at
+    (covers_fault (theory_in setting data_ canon) other at c.in_err-check_covers.ensures.wrong))
 
 pub check_trees-requires-clause-covers : goal.check_trees-requires-clause-covers
 check_trees-requires-clause-covers g c =
@@ -103,9 +104,10 @@ returns-in_err-check_complete-clause-refused g c =
     c.as_slice-covers.ensures.value c.as_slice-trees.ensures.value c.as_slice-lemmas.ensures.value in
     let at = c.in_err-check_complete.field-0.0 in
     handed_on (HoldsAtLine (IsInductionFault (known_theory data_ c.args.rules.now canon) (certificate_in c.args.certificate.now)))
-    c.from_residual-in_err-check_complete.result at c.from_residual-in_err-check_complete.ensures.1 (fault_known setting data_ canon
-    c.requires.same_signature c.args.certificate.now other same at (lack_fault (theory_in setting data_ canon) other at
-    c.in_ok-check_covers.ensures.right (c.in_ok-begin.ensures.right data_ canon) c.in_err-check_complete.ensures.lacking))
+    c.from_residual-in_err-check_complete.result at c.from_residual-in_err-check_complete.ensures.1
+    (fault_known setting data_ canon c.requires.same_signature c.args.certificate.now other same at
+    (lack_fault (theory_in setting data_ canon) other at c.in_ok-check_covers.ensures.right (c.in_ok-begin.ensures.right data_ canon)
+    c.in_err-check_complete.ensures.lacking))
 
 pub check_lemmas-requires-clause-set : goal.check_lemmas-requires-clause-set
 check_lemmas-requires-clause-set g c =
@@ -120,8 +122,9 @@ check_lemmas-requires-clause-set g c =
     let other = of_lists c.as_slice-covers.result.now c.as_slice-trees.result.now c.as_slice-lemmas.result.now in
     let same = lists_are c.args.certificate.now c.as_slice-covers.result.now c.as_slice-trees.result.now c.as_slice-lemmas.result.now
     c.as_slice-covers.ensures.value c.as_slice-trees.ensures.value c.as_slice-lemmas.ensures.value in
-    let fit = known_fit data_ c.args.rules.now canon (subst IsWellFormedSignature c.requires.same_signature
-    c.args.signature.now.well_formed) c.requires.rules_of (g.met.D.Deciding.is_canon c.args.data_.now) in
+    let fit = known_fit data_ c.args.rules.now canon
+    (subst IsWellFormedSignature c.requires.same_signature c.args.signature.now.well_formed) c.requires.rules_of
+    (g.met.D.Deciding.is_canon c.args.data_.now) in
     setting_set setting data_ canon c.requires.same_signature fit c.in_ok-check_covers.ensures.right
 
 pub check_lemmas-requires-clause-known : goal.check_lemmas-requires-clause-known
@@ -164,7 +167,8 @@ returns-clause-certified g c =
       trees = c.in_ok-begin.ensures.right data_ canon;
       complete = c.in_ok-check_complete.ensures.complete;
       lemmas = right;
-    })) c.check_lemmas.ensures.right
+    }))
+    c.check_lemmas.ensures.right
 
 pub returns-clause-covers : goal.returns-clause-covers
 returns-clause-covers g c =
@@ -179,15 +183,17 @@ returns-clause-covers g c =
     let other = of_lists c.as_slice-covers.result.now c.as_slice-trees.result.now c.as_slice-lemmas.result.now in
     let same = lists_are c.args.certificate.now c.as_slice-covers.result.now c.as_slice-trees.result.now c.as_slice-lemmas.result.now
     c.as_slice-covers.ensures.value c.as_slice-trees.ensures.value c.as_slice-lemmas.ensures.value in
-    let fit = known_fit data_ c.args.rules.now canon (subst IsWellFormedSignature c.requires.same_signature
-    c.args.signature.now.well_formed) c.requires.rules_of (g.met.D.Deciding.is_canon c.args.data_.now) in
+    let fit = known_fit data_ c.args.rules.now canon
+    (subst IsWellFormedSignature c.requires.same_signature c.args.signature.now.well_formed) c.requires.rules_of
+    (g.met.D.Deciding.is_canon c.args.data_.now) in
     IfOk-weaker c.check_lemmas.result _ _
     (λ u right. covered_known setting data_ canon c.requires.same_signature c.args.certificate.now other same fit c.requires.known (record {
       covers = c.in_ok-check_covers.ensures.right;
       trees = c.in_ok-begin.ensures.right data_ canon;
       complete = c.in_ok-check_complete.ensures.complete;
       lemmas = right;
-    })) c.check_lemmas.ensures.right
+    }))
+    c.check_lemmas.ensures.right
 
 pub returns-clause-hold : goal.returns-clause-hold
 returns-clause-hold g c =
@@ -202,15 +208,17 @@ returns-clause-hold g c =
     let other = of_lists c.as_slice-covers.result.now c.as_slice-trees.result.now c.as_slice-lemmas.result.now in
     let same = lists_are c.args.certificate.now c.as_slice-covers.result.now c.as_slice-trees.result.now c.as_slice-lemmas.result.now
     c.as_slice-covers.ensures.value c.as_slice-trees.ensures.value c.as_slice-lemmas.ensures.value in
-    let fit = known_fit data_ c.args.rules.now canon (subst IsWellFormedSignature c.requires.same_signature
-    c.args.signature.now.well_formed) c.requires.rules_of (g.met.D.Deciding.is_canon c.args.data_.now) in
+    let fit = known_fit data_ c.args.rules.now canon
+    (subst IsWellFormedSignature c.requires.same_signature c.args.signature.now.well_formed) c.requires.rules_of
+    (g.met.D.Deciding.is_canon c.args.data_.now) in
     IfOk-weaker c.check_lemmas.result _ _
     (λ u right. hold_known setting data_ canon c.requires.same_signature c.args.certificate.now other same fit c.requires.known (record {
       covers = c.in_ok-check_covers.ensures.right;
       trees = c.in_ok-begin.ensures.right data_ canon;
       complete = c.in_ok-check_complete.ensures.complete;
       lemmas = right;
-    })) c.check_lemmas.ensures.right
+    }))
+    c.check_lemmas.ensures.right
 
 pub returns-clause-refused : goal.returns-clause-refused
 returns-clause-refused g c =
@@ -226,9 +234,11 @@ returns-clause-refused g c =
     let same = lists_are c.args.certificate.now c.as_slice-covers.result.now c.as_slice-trees.result.now c.as_slice-lemmas.result.now
     c.as_slice-covers.ensures.value c.as_slice-trees.ensures.value c.as_slice-lemmas.ensures.value in
     let theory = theory_in setting data_ canon in
-    IfErr-weaker c.check_lemmas.result _ _ (λ at wrong. fault_known setting data_ canon c.requires.same_signature c.args.certificate.now
-    other same at (lemmas_fault theory other at c.in_ok-check_covers.ensures.right (c.in_ok-begin.ensures.right data_ canon)
-    c.in_ok-check_complete.ensures.complete (subst (λ (line : ℕ). HoldsAtLine (FirstIsWrong (IsRightLemma theory (setting_covers setting))
-    (IsWrongLemma theory (setting_covers setting)) lines_of_lemma line [] (lemmas_in c.as_slice-lemmas.result.now)) at) (lemmas_begin
-    c.as_slice-covers.result.now c.as_slice-trees.result.now c.in_ok-begin.begin c.in_ok-begin.ensures.line) wrong)))
+    IfErr-weaker c.check_lemmas.result _ _
+    (λ at wrong. fault_known setting data_ canon c.requires.same_signature c.args.certificate.now other same at
+    (lemmas_fault theory other at c.in_ok-check_covers.ensures.right (c.in_ok-begin.ensures.right data_ canon)
+    c.in_ok-check_complete.ensures.complete
+    (subst (λ (line : ℕ). HoldsAtLine (FirstIsWrong (IsRightLemma theory (setting_covers setting))
+    (IsWrongLemma theory (setting_covers setting)) lines_of_lemma line [] (lemmas_in c.as_slice-lemmas.result.now)) at)
+    (lemmas_begin c.as_slice-covers.result.now c.as_slice-trees.result.now c.in_ok-begin.begin c.in_ok-begin.ensures.line) wrong)))
     c.check_lemmas.ensures.wrong

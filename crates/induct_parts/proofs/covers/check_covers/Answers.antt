@@ -21,13 +21,15 @@ returns-then-not-is_right-clause-wrong c =
         refl,
       ),
       at,
-    ) c.loop-number.invariant
+    )
+    c.loop-number.invariant
 
 pub loop-number-preserved : goal.loop-number-preserved
 loop-number-preserved c =
     things_go_on (IsRightCover (signature_of c.args.signature.now)) (IsWrongCover (signature_of c.args.signature.now)) lines_of_cover
-    cover_in 1 c.args.covers.now c.loop-number.number (c.loop-number.number + 1) (c.loop-number.number + 1 + 1) c.index-covers-number.result
-    c.loop-number-test.true c.index-covers-number.is (c.is_right.ensures.0 (cc c.if-not-is_right.false)) refl c.loop-number.invariant
+    cover_in 1 c.args.covers.now c.loop-number.number (c.loop-number.number + 1) (c.loop-number.number + 1 + 1)
+    c.index-covers-number.result c.loop-number-test.true c.index-covers-number.is
+    (c.is_right.ensures.0 (cc c.if-not-is_right.false)) refl c.loop-number.invariant
 
 pub returns-clause-right : goal.returns-clause-right
 returns-clause-right c =

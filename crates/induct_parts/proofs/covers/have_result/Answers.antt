@@ -12,8 +12,9 @@ returns-then-not-has_result c =
 
 pub loop-operation-preserved : goal.loop-operation-preserved
 loop-operation-preserved c =
-    members_more (HasResult (signature_of c.args.signature.now) c.args.sort) c.args.operations.now c.loop-operation.operation-index
-    c.loop-operation-test.true (c.has_result.ensures.0 (cc c.if-not-has_result.false)) c.loop-operation.invariant
+    members_more (HasResult (signature_of c.args.signature.now) c.args.sort) c.args.operations.now
+    c.loop-operation.operation-index c.loop-operation-test.true (c.has_result.ensures.0 (cc c.if-not-has_result.false))
+    c.loop-operation.invariant
 
 pub returns : goal.returns
 returns c =

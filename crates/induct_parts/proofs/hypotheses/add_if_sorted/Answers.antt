@@ -28,13 +28,16 @@ returns-then-sort-put-clause-added c =
 
 pub returns-clause-added : goal.returns-clause-added
 returns-clause-added c =
-    added_where (nat_eq c.args.put.now.op.now.result c.args.sort) (map statement_of c.args.made.now.items) _ (map statement_of
-    c.push.new.self.items) (one_sort c.args.put.now.op.now.result c.args.sort c.if-sort-put.false) (pushed statement_of
-    c.args.made.now.items c.push.new.self.items c.in_ok-hypothesis.hypothesis c.in_ok-push.ensures.items ∙ ap (λ (s : PlainStatement). map
-    statement_of c.args.made.now.items ++ s ∷ []) (c.in_ok-hypothesis.ensures.made ∙ ap (λ (m : ℕ). in_both (substituted (put_for
-    c.args.put.now.variable c.args.put.now.op.now.result (variable m c.args.put.now.op.now.result))) (statement_of c.args.point.now.goal))
+    added_where (nat_eq c.args.put.now.op.now.result c.args.sort) (map statement_of c.args.made.now.items) _
+    (map statement_of c.push.new.self.items) (one_sort c.args.put.now.op.now.result c.args.sort c.if-sort-put.false)
+    (pushed statement_of c.args.made.now.items c.push.new.self.items c.in_ok-hypothesis.hypothesis c.in_ok-push.ensures.items
+    ∙ ap (λ (s : PlainStatement). map statement_of c.args.made.now.items ++ s ∷ [])
+    (c.in_ok-hypothesis.ensures.made
+    ∙ ap (λ (m : ℕ). in_both (substituted (put_for c.args.put.now.variable c.args.put.now.op.now.result
+    (variable m c.args.put.now.op.now.result))) (statement_of c.args.point.now.goal))
     (ap (λ (m : ℕ). m + c.args.i) (c.len.ensures ∙ c.args.point.now.sorts.ok.0))))
 
 pub returns-clause-over : goal.returns-clause-over
-returns-clause-over c = λ each. each_pushed (IsStatementOf (setting_signature c.args.setting.now)) c.args.made.now.items
-    c.push.new.self.items c.in_ok-hypothesis.hypothesis c.in_ok-push.ensures.items c.in_ok-hypothesis.ensures.over each
+returns-clause-over c = λ each.
+    each_pushed (IsStatementOf (setting_signature c.args.setting.now)) c.args.made.now.items c.push.new.self.items
+    c.in_ok-hypothesis.hypothesis c.in_ok-push.ensures.items c.in_ok-hypothesis.ensures.over each

@@ -22,17 +22,19 @@ add_if_sorted-requires-clause-within c =
 
 pub loop-i-preserved : goal.loop-i-preserved
 loop-i-preserved c = record {
-  so_far = hypotheses_go_on (statement_of c.args.point.now.goal) c.args.put.now.variable c.args.put.now.op.now.result (length
-      c.args.point.now.sorts.items) c.loop-i.i (get_or c.as_slice-arguments.result.now c.loop-i.i 0) c.as_slice-arguments.result.now (map
-      statement_of c.loop-i.made.items) (map statement_of c.add_if_sorted.new.made.items) _ c.loop-i-test.true (read_at
-      c.as_slice-arguments.result.now c.loop-i.i c.loop-i-test.true) c.in_ok-add_if_sorted.ensures.added c.loop-i.invariant.so_far;
+  so_far = hypotheses_go_on (statement_of c.args.point.now.goal) c.args.put.now.variable c.args.put.now.op.now.result
+      (length c.args.point.now.sorts.items) c.loop-i.i (get_or c.as_slice-arguments.result.now c.loop-i.i 0)
+      c.as_slice-arguments.result.now (map statement_of c.loop-i.made.items) (map statement_of c.add_if_sorted.new.made.items) _
+      c.loop-i-test.true (read_at c.as_slice-arguments.result.now c.loop-i.i c.loop-i-test.true) c.in_ok-add_if_sorted.ensures.added
+      c.loop-i.invariant.so_far;
   over = c.in_ok-add_if_sorted.ensures.over c.loop-i.invariant.over;
 }
 
 pub returns-clause-added : goal.returns-clause-added
 returns-clause-added c =
-    hypotheses_end (statement_of c.args.point.now.goal) c.args.put.now.variable c.args.put.now.op.now.result (length
-    c.args.point.now.sorts.items) c.loop-i.i c.as_slice-arguments.result.now (map statement_of c.loop-i.made.items) _ c.loop-i-test.false
-    c.loop-i.invariant.so_far ∙ ap (λ xs. map statement_of c.args.point.now.hypotheses.items ++ hypotheses_for (statement_of
-    c.args.point.now.goal) c.args.put.now.variable c.args.put.now.op.now.result (length c.args.point.now.sorts.items) xs)
-    c.as_slice-arguments.ensures.value
+    hypotheses_end (statement_of c.args.point.now.goal) c.args.put.now.variable c.args.put.now.op.now.result
+    (length c.args.point.now.sorts.items) c.loop-i.i c.as_slice-arguments.result.now (map statement_of c.loop-i.made.items) _
+    c.loop-i-test.false c.loop-i.invariant.so_far
+    ∙ ap (λ xs. map statement_of c.args.point.now.hypotheses.items
+    ++ hypotheses_for (statement_of c.args.point.now.goal) c.args.put.now.variable c.args.put.now.op.now.result
+    (length c.args.point.now.sorts.items) xs) c.as_slice-arguments.ensures.value

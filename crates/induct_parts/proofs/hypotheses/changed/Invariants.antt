@@ -11,8 +11,9 @@ use Rattle.induct_parts.proofs.hypotheses.changed.Given as goal
 abbrev pub invariant-loop-number : goal.invariant-loop-number
 invariant-loop-number l = record {
   so_far : map statement_of l.made.items
-      ++ map (in_both (substituted (put_for l.put.variable l.put.op.now.result (term_in l.put.term.now)))) (map statement_of (drop l.number
-      l.hypotheses)) ≡ map (in_both (substituted (put_for l.put.variable l.put.op.now.result (term_in l.put.term.now)))) (map statement_of
-      l.hypotheses);
+      ++ map (in_both (substituted (put_for l.put.variable l.put.op.now.result (term_in l.put.term.now))))
+      (map statement_of (drop l.number l.hypotheses))
+      ≡ map (in_both (substituted (put_for l.put.variable l.put.op.now.result (term_in l.put.term.now))))
+      (map statement_of l.hypotheses);
   over : Each (IsStatementOf (setting_signature l.setting)) l.made.items;
 }

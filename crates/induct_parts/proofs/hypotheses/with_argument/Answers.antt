@@ -11,11 +11,15 @@ put_for-requires c = λ s o.
 
 pub returns-clause-made : goal.returns-clause-made
 returns-clause-made c =
-    IfOk-weaker c.put_for.result _ _ (λ made h. put_variable c.args.put.now.variable c.args.put.now.op.now.result c.args.argument
-    c.of-term.result (statement_of c.args.goal.now) made c.of-term.ensures h) c.put_for.ensures.made
+    IfOk-weaker c.put_for.result _ _
+    (λ made h. put_variable c.args.put.now.variable c.args.put.now.op.now.result c.args.argument c.of-term.result
+    (statement_of c.args.goal.now) made c.of-term.ensures h)
+    c.put_for.ensures.made
 
 pub returns-clause-over : goal.returns-clause-over
 returns-clause-over c =
-    IfOk-weaker c.put_for.result _ _ (λ made h. h (setting_signature c.args.setting.now) c.requires.over (variable_over (setting_signature
-    c.args.setting.now) c.of-term.result c.args.argument c.args.put.now.op.now.result c.of-term.ensures c.requires.sort))
+    IfOk-weaker c.put_for.result _ _
+    (λ made h. h (setting_signature c.args.setting.now) c.requires.over
+    (variable_over (setting_signature c.args.setting.now) c.of-term.result c.args.argument c.args.put.now.op.now.result c.of-term.ensures
+    c.requires.sort))
     c.put_for.ensures.over

@@ -11,16 +11,18 @@ use Rattle.induct_parts.proofs.lacks.first_lack.Goals as goal
 pub returns-in-Some : goal.returns-in-Some
 returns-in-Some c = (
   first_lack_is (signature_of c.args.signature.now) (covers_in c.args.covers.now) (trees_in c.args.trees.now) c.loop-number.number
-      c.in-Some.operation (cover_in c.index-covers-number.result) (at_map cover_in c.args.covers.now c.loop-number.number
-      c.index-covers-number.result (slice_get_read c.args.covers.now (length c.args.covers.now) c.loop-number.number
-      c.index-covers-number.result refl c.loop-number-test.true c.index-covers-number.is)) c.in-Some.ensures.0 c.in-Some.ensures.1
-      c.loop-number.invariant,
+      c.in-Some.operation (cover_in c.index-covers-number.result)
+      (at_map cover_in c.args.covers.now c.loop-number.number c.index-covers-number.result
+      (slice_get_read c.args.covers.now (length c.args.covers.now) c.loop-number.number c.index-covers-number.result refl
+      c.loop-number-test.true c.index-covers-number.is))
+      c.in-Some.ensures.0 c.in-Some.ensures.1 c.loop-number.invariant,
   c.loop-number-test.true,
 )
 
 pub returns : goal.returns
 returns c =
-    complete_of (signature_of c.args.signature.now) (covers_in c.args.covers.now) (trees_in c.args.trees.now) (λ i g cover at.
+    complete_of (signature_of c.args.signature.now) (covers_in c.args.covers.now) (trees_in c.args.trees.now)
+    (λ i g cover at.
     let within = slice_get_within (covers_in c.args.covers.now) i cover at in
     let same : length (covers_in c.args.covers.now) ≡ length c.args.covers.now = length-map c.args.covers.now cover_in in
     let past : length c.args.covers.now ≤ c.loop-number.number = c.loop-number-test.false in
@@ -28,7 +30,9 @@ returns c =
 
 pub loop-number-preserved : goal.loop-number-preserved
 loop-number-preserved c =
-    covers_more (signature_of c.args.signature.now) (covers_in c.args.covers.now) (trees_in c.args.trees.now) c.loop-number.number (cover_in
-    c.index-covers-number.result) (at_map cover_in c.args.covers.now c.loop-number.number c.index-covers-number.result (slice_get_read
-    c.args.covers.now (length c.args.covers.now) c.loop-number.number c.index-covers-number.result refl c.loop-number-test.true
-    c.index-covers-number.is)) c.in-None.ensures c.loop-number.invariant
+    covers_more (signature_of c.args.signature.now) (covers_in c.args.covers.now) (trees_in c.args.trees.now) c.loop-number.number
+    (cover_in c.index-covers-number.result)
+    (at_map cover_in c.args.covers.now c.loop-number.number c.index-covers-number.result
+    (slice_get_read c.args.covers.now (length c.args.covers.now) c.loop-number.number c.index-covers-number.result refl
+    c.loop-number-test.true c.index-covers-number.is))
+    c.in-None.ensures c.loop-number.invariant

@@ -12,11 +12,13 @@ returns-then-lacks c = (c.lacks.ensures.0 c.if-lacks.true, c.loop-operation.inva
 pub loop-operation-preserved : goal.loop-operation-preserved
 loop-operation-preserved c =
     lacks_none_more (LacksTree (signature_of c.args.signature.now) (trees_in c.args.trees.now) (cover_in c.args.cover.now))
-    c.loop-operation.operation (λ lack. let t : IsTrue c.lacks.result = c.lacks.ensures.1 lack in absurd (cc (t, c.if-lacks.false)))
+    c.loop-operation.operation
+    (λ lack. let t : IsTrue c.lacks.result = c.lacks.ensures.1 lack in absurd (cc (t, c.if-lacks.false)))
     c.loop-operation.invariant
 
 pub returns : goal.returns
 returns c =
     lacks_none (signature_of c.args.signature.now) (trees_in c.args.trees.now) (cover_in c.args.cover.now) c.loop-operation.operation
     (past_operations c.args.signature.now c.ops-operation-end.result.now c.loop-operation.operation c.ops-operation-end.ensures
-    c.loop-operation-test.false) c.loop-operation.invariant
+    c.loop-operation-test.false)
+    c.loop-operation.invariant

@@ -23,5 +23,6 @@ returns-then-is_listed c =
 pub returns : goal.returns
 returns c =
     lacks_by_tests (signature_of c.args.signature.now) (trees_in c.args.trees.now) (cover_in c.args.cover.now) c.args.operation
-    c.has_tree.result (c.has_result.ensures.0 (cc c.if-not-has_result.false)) (ap (λ fs. is_listed fs c.args.operation) (sym
-    c.as_slice.ensures.value) ∙ (sym c.is_listed.ensures ∙ c.if-is_listed.false)) c.has_tree.ensures
+    c.has_tree.result (c.has_result.ensures.0 (cc c.if-not-has_result.false))
+    (ap (λ fs. is_listed fs c.args.operation) (sym c.as_slice.ensures.value) ∙ (sym c.is_listed.ensures ∙ c.if-is_listed.false))
+    c.has_tree.ensures

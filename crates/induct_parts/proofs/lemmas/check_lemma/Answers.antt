@@ -30,29 +30,33 @@ pub returns-clause-right : goal.returns-clause-right
 returns-clause-right g c =
     let theory = theory_in c.args.setting.now (g.D.Deciding.known_data c.args.data_.now) (g.D.Deciding.canon c.args.data_.now) in
     let earlier = lemmas_in c.args.earlier.now in
-    IfOk-weaker c.deal.result _ _ (λ u deals. lemma_right theory (setting_covers c.args.setting.now) earlier (lemma_in c.args.lemma.now)
-    (record { earlier = statements_of earlier; free = c.len.result }) (case_in c.in_ok-point.point) (map proof_line_of
-    c.as_slice-lines.result.now) (ap (λ (n : ℕ). record { earlier = statements_of earlier; free = n }) (c.len.ensures ∙
-    c.args.lemma.now.variables.ok.0)) c.in_ok-point.ensures.first (ap (map proof_line_of) c.as_slice-lines.ensures.value) (held_before (λ (d
-    : Data) (k : Term → Term). DealsWith (CaseComesTo (theory_in c.args.setting.now d k) (setting_covers c.args.setting.now) (record {
-      earlier = statements_of earlier;
-      free = c.len.result;
-    })) (case_in c.in_ok-point.point ∷ []) (map proof_line_of
-    c.as_slice-lines.result.now)) c.first.ensures.same_data c.first.ensures.same_canon deals)) c.deal.ensures.right
+    IfOk-weaker c.deal.result _ _
+    (λ u deals. lemma_right theory (setting_covers c.args.setting.now) earlier (lemma_in c.args.lemma.now)
+    (record { earlier = statements_of earlier; free = c.len.result }) (case_in c.in_ok-point.point)
+    (map proof_line_of c.as_slice-lines.result.now)
+    (ap (λ (n : ℕ). record { earlier = statements_of earlier; free = n }) (c.len.ensures ∙ c.args.lemma.now.variables.ok.0))
+    c.in_ok-point.ensures.first (ap (map proof_line_of) c.as_slice-lines.ensures.value)
+    (held_before (λ (d : Data) (k : Term → Term). DealsWith (CaseComesTo (theory_in c.args.setting.now d k)
+    (setting_covers c.args.setting.now) (record { earlier = statements_of earlier; free = c.len.result }))
+    (case_in c.in_ok-point.point ∷ []) (map proof_line_of c.as_slice-lines.result.now))
+    c.first.ensures.same_data c.first.ensures.same_canon deals))
+    c.deal.ensures.right
 
 pub returns-clause-wrong : goal.returns-clause-wrong
 returns-clause-wrong g c =
     let theory = theory_in c.args.setting.now (g.D.Deciding.known_data c.args.data_.now) (g.D.Deciding.canon c.args.data_.now) in
     let earlier = lemmas_in c.args.earlier.now in
-    IfErr-weaker c.deal.result _ _ (λ at wrong. lemma_wrong theory (setting_covers c.args.setting.now) earlier (lemma_in c.args.lemma.now)
-    (record { earlier = statements_of earlier; free = c.len.result }) (case_in c.in_ok-point.point) (map proof_line_of
-    c.as_slice-lines.result.now) c.args.begin at.line at.fault (ap (λ (n : ℕ). record { earlier = statements_of earlier; free = n })
-    (c.len.ensures ∙ c.args.lemma.now.variables.ok.0)) c.in_ok-point.ensures.first (ap (map proof_line_of) c.as_slice-lines.ensures.value)
-    (held_before (λ (d : Data) (k : Term → Term). HoldsOfLineFault (FromLine (c.args.begin + 3) (FailsToDeal (CaseComesTo (theory_in
-    c.args.setting.now d k) (setting_covers c.args.setting.now) (record { earlier = statements_of earlier; free = c.len.result }))
-    (IsWrongAtCase (theory_in c.args.setting.now d k) (setting_covers c.args.setting.now) (record {
-      earlier = statements_of earlier;
-      free =
-          c.len.result;
-    })) bad_line (case_in c.in_ok-point.point ∷ []) (map proof_line_of c.as_slice-lines.result.now)) at.line) at.fault)
-    c.first.ensures.same_data c.first.ensures.same_canon wrong)) c.deal.ensures.wrong
+    IfErr-weaker c.deal.result _ _
+    (λ at wrong. lemma_wrong theory (setting_covers c.args.setting.now) earlier (lemma_in c.args.lemma.now)
+    (record { earlier = statements_of earlier; free = c.len.result }) (case_in c.in_ok-point.point)
+    (map proof_line_of c.as_slice-lines.result.now) c.args.begin at.line at.fault
+    (ap (λ (n : ℕ). record { earlier = statements_of earlier; free = n }) (c.len.ensures ∙ c.args.lemma.now.variables.ok.0))
+    c.in_ok-point.ensures.first (ap (map proof_line_of) c.as_slice-lines.ensures.value)
+    (held_before (λ (d : Data) (k : Term → Term). HoldsOfLineFault (FromLine (c.args.begin + 3) (FailsToDeal
+    (CaseComesTo (theory_in c.args.setting.now d k) (setting_covers c.args.setting.now)
+    (record { earlier = statements_of earlier; free = c.len.result }))
+    (IsWrongAtCase (theory_in c.args.setting.now d k) (setting_covers c.args.setting.now)
+    (record { earlier = statements_of earlier; free = c.len.result }))
+    bad_line (case_in c.in_ok-point.point ∷ []) (map proof_line_of c.as_slice-lines.result.now)) at.line) at.fault)
+    c.first.ensures.same_data c.first.ensures.same_canon wrong))
+    c.deal.ensures.wrong

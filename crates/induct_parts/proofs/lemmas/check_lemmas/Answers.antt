@@ -38,7 +38,8 @@ check_lemma-requires-clause-before g c =
 pub check_lemma-requires-clause-known : goal.check_lemma-requires-clause-known
 check_lemma-requires-clause-known g c =
     each_member (IsKnownLemma (setting_signature c.args.setting.now)) c.args.lemmas.now c.loop-number.number c.index-lemmas-number.result
-    c.requires.known (slice_get_read c.args.lemmas.now (length c.args.lemmas.now) c.loop-number.number c.index-lemmas-number.result refl
+    c.requires.known
+    (slice_get_read c.args.lemmas.now (length c.args.lemmas.now) c.loop-number.number c.index-lemmas-number.result refl
     c.loop-number-test.true c.index-lemmas-number.is)
 
 pub check_lemma-requires-clause-few : goal.check_lemma-requires-clause-few
@@ -52,13 +53,16 @@ returns-in_err-check_lemma-clause-wrong g c =
     let theory = theory_in c.args.setting.now (g.D.Deciding.known_data c.args.data_.now) (g.D.Deciding.canon c.args.data_.now) in
     let covers = setting_covers c.args.setting.now in
     let at = c.in_err-check_lemma.field-0.0 in
-    handed_on (HoldsAtLine (FirstIsWrong (IsRightLemma theory covers) (IsWrongLemma theory covers) lines_of_lemma c.args.begin [] (lemmas_in
-    c.args.lemmas.now))) c.from_residual.result at c.from_residual.ensures.1 (thing_wrong (IsRightLemma theory covers) (IsWrongLemma theory
-    covers) lines_of_lemma lemma_in c.args.begin c.args.lemmas.now c.loop-number.number c.loop-number.line at.line
-    c.index-lemmas-number.result at.fault c.loop-number-test.true c.index-lemmas-number.is (held_before (λ (d : Data) (k : Term → Term).
-    HoldsOfLineFault (FromLine c.loop-number.line (IsWrongLemma (theory_in c.args.setting.now d k) covers (lemmas_in (take
-    c.loop-number.number c.args.lemmas.now)) (lemma_in c.index-lemmas-number.result)) at.line) at.fault) c.loop-number.invariant.same_data
-    c.loop-number.invariant.same_canon c.in_err-check_lemma.ensures.wrong) c.loop-number.invariant.so_far)
+    handed_on (HoldsAtLine (FirstIsWrong (IsRightLemma theory covers) (IsWrongLemma theory covers) lines_of_lemma c.args.begin []
+    (lemmas_in c.args.lemmas.now)))
+    c.from_residual.result at c.from_residual.ensures.1
+    (thing_wrong (IsRightLemma theory covers) (IsWrongLemma theory covers) lines_of_lemma lemma_in c.args.begin c.args.lemmas.now
+    c.loop-number.number c.loop-number.line at.line c.index-lemmas-number.result at.fault c.loop-number-test.true c.index-lemmas-number.is
+    (held_before (λ (d : Data) (k : Term → Term). HoldsOfLineFault
+    (FromLine c.loop-number.line (IsWrongLemma (theory_in c.args.setting.now d k)
+    covers (lemmas_in (take c.loop-number.number c.args.lemmas.now)) (lemma_in c.index-lemmas-number.result)) at.line) at.fault)
+    c.loop-number.invariant.same_data c.loop-number.invariant.same_canon c.in_err-check_lemma.ensures.wrong)
+    c.loop-number.invariant.so_far)
 
 pub loop-number-preserved : goal.loop-number-preserved
 loop-number-preserved g c =
@@ -69,12 +73,14 @@ loop-number-preserved g c =
     record {
       same_data = c.check_lemma.ensures.same_data ∙ c.loop-number.invariant.same_data;
       same_canon = c.check_lemma.ensures.same_canon ∙ c.loop-number.invariant.same_canon;
-      so_far = things_go_on (IsRightLemma theory covers) (IsWrongLemma theory covers) lines_of_lemma lemma_in c.args.begin c.args.lemmas.now
-          c.loop-number.number c.loop-number.line (c.loop-number.line + (3 + c.len.result)) c.index-lemmas-number.result
-          c.loop-number-test.true c.index-lemmas-number.is (held_before (λ (d : Data) (k : Term → Term). IsRightLemma (theory_in
-          c.args.setting.now d k) covers (lemmas_in (take c.loop-number.number c.args.lemmas.now)) (lemma_in c.index-lemmas-number.result))
-          c.loop-number.invariant.same_data c.loop-number.invariant.same_canon c.in_ok-check_lemma.ensures.right) (more ∙ ap (λ (k : ℕ).
-          c.loop-number.line + k) (sym (lemma_length c.index-lemmas-number.result))) c.loop-number.invariant.so_far;
+      so_far = things_go_on (IsRightLemma theory covers) (IsWrongLemma theory covers) lines_of_lemma lemma_in c.args.begin
+          c.args.lemmas.now c.loop-number.number c.loop-number.line (c.loop-number.line + (3 + c.len.result))
+          c.index-lemmas-number.result c.loop-number-test.true c.index-lemmas-number.is
+          (held_before (λ (d : Data) (k : Term → Term). IsRightLemma (theory_in c.args.setting.now d k) covers
+          (lemmas_in (take c.loop-number.number c.args.lemmas.now)) (lemma_in c.index-lemmas-number.result))
+          c.loop-number.invariant.same_data c.loop-number.invariant.same_canon c.in_ok-check_lemma.ensures.right)
+          (more ∙ ap (λ (k : ℕ). c.loop-number.line + k) (sym (lemma_length c.index-lemmas-number.result)))
+          c.loop-number.invariant.so_far;
       few = lemmas_go_on c.args.lemmas.now c.loop-number.number c.loop-number.line (c.loop-number.line + (3 + c.len.result)) _
           c.index-lemmas-number.result c.loop-number-test.true c.index-lemmas-number.is more c.loop-number.invariant.few;
     }

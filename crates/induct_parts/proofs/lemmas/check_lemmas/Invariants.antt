@@ -10,8 +10,10 @@ invariant-loop-number g l = record {
   same_data : g.D.Deciding.known_data l.data_ ≡ g.D.Deciding.known_data l.initial.data_;
   same_canon : g.D.Deciding.canon l.data_ ≡ g.D.Deciding.canon l.initial.data_;
   so_far : RightSoFar
-      (IsRightLemma (theory_in l.setting (g.D.Deciding.known_data l.initial.data_) (g.D.Deciding.canon l.initial.data_)) (setting_covers
-      l.setting)) (IsWrongLemma (theory_in l.setting (g.D.Deciding.known_data l.initial.data_) (g.D.Deciding.canon l.initial.data_))
-      (setting_covers l.setting)) lines_of_lemma lemma_in l.begin l.lemmas l.number l.line;
+      (IsRightLemma (theory_in l.setting (g.D.Deciding.known_data l.initial.data_) (g.D.Deciding.canon l.initial.data_))
+      (setting_covers l.setting))
+      (IsWrongLemma (theory_in l.setting (g.D.Deciding.known_data l.initial.data_) (g.D.Deciding.canon l.initial.data_))
+      (setting_covers l.setting))
+      lines_of_lemma lemma_in l.begin l.lemmas l.number l.line;
   few : l.line + lines_of_lemmas (lemmas_in (drop l.number l.lemmas)) ≡ l.begin + lines_of_lemmas (lemmas_in l.lemmas);
 }

@@ -23,9 +23,10 @@ loop-number-init g c =
     record {
       same_data = refl;
       same_canon = refl;
-      so_far = deal_begins (CaseComesTo theory (setting_covers c.args.setting.now) (proving_in c.args.proving.now)) (IsWrongAtCase theory
-          (setting_covers c.args.setting.now) (proving_in c.args.proving.now)) proof_line_of (case_in c.args.first ∷ []) c.args.lines.now
-          (cases_in (reverse c.push.new.self.items)) (ap (map case_in) alone);
+      so_far = deal_begins (CaseComesTo theory (setting_covers c.args.setting.now) (proving_in c.args.proving.now))
+          (IsWrongAtCase theory (setting_covers c.args.setting.now) (proving_in c.args.proving.now)) proof_line_of
+          (case_in c.args.first ∷ [])
+          c.args.lines.now (cases_in (reverse c.push.new.self.items)) (ap (map case_in) alone);
       known = subst (Each (IsKnownCase (setting_signature c.args.setting.now) c.args.proving.now.free)) (sym alone) (c.requires.known, tt);
     }
 
@@ -39,13 +40,16 @@ loop-number-preserved g c =
     record {
       same_data = c.next.ensures.same_data ∙ c.loop-number.invariant.same_data;
       same_canon = c.next.ensures.same_canon ∙ c.loop-number.invariant.same_canon;
-      so_far = deal_goes_on (CaseComesTo theory (setting_covers c.args.setting.now) (proving_in c.args.proving.now)) (IsWrongAtCase theory
-          (setting_covers c.args.setting.now) (proving_in c.args.proving.now)) proof_line_of (case_in c.args.first ∷ []) c.args.lines.now
-          c.loop-number.number (cases_in (reverse c.loop-number.left.items)) (cases_in (reverse c.next.new.left.items))
-          c.index-lines-number.result c.loop-number-test.true c.index-lines-number.is (held_before (λ (d : Data) (k : Term → Term).
-          LinesReach (CaseComesTo (theory_in c.args.setting.now d k) (setting_covers c.args.setting.now) (proving_in c.args.proving.now))
-          (cases_in (reverse c.loop-number.left.items)) (proof_line_of c.index-lines-number.result ∷ []) (cases_in (reverse
-          c.next.new.left.items))) c.loop-number.invariant.same_data c.loop-number.invariant.same_canon c.in-Ok.ensures.comes)
+      so_far = deal_goes_on (CaseComesTo theory (setting_covers c.args.setting.now) (proving_in c.args.proving.now))
+          (IsWrongAtCase theory (setting_covers c.args.setting.now) (proving_in c.args.proving.now)) proof_line_of
+          (case_in c.args.first ∷ [])
+          c.args.lines.now c.loop-number.number (cases_in (reverse c.loop-number.left.items)) (cases_in (reverse c.next.new.left.items))
+          c.index-lines-number.result c.loop-number-test.true c.index-lines-number.is
+          (held_before (λ (d : Data) (k : Term → Term). LinesReach
+          (CaseComesTo (theory_in c.args.setting.now d k) (setting_covers c.args.setting.now) (proving_in c.args.proving.now))
+          (cases_in (reverse c.loop-number.left.items)) (proof_line_of c.index-lines-number.result ∷ [])
+          (cases_in (reverse c.next.new.left.items)))
+          c.loop-number.invariant.same_data c.loop-number.invariant.same_canon c.in-Ok.ensures.comes)
           c.loop-number.invariant.so_far;
       known = c.in-Ok.ensures.known;
     }
@@ -53,15 +57,17 @@ loop-number-preserved g c =
 pub returns-in-Err-clause-wrong : goal.returns-in-Err-clause-wrong
 returns-in-Err-clause-wrong g c =
     let theory = theory_in c.args.setting.now (g.D.Deciding.known_data c.args.data_.now) (g.D.Deciding.canon c.args.data_.now) in
-    deal_wrong (CaseComesTo theory (setting_covers c.args.setting.now) (proving_in c.args.proving.now)) (IsWrongAtCase theory
-    (setting_covers c.args.setting.now) (proving_in c.args.proving.now)) proof_line_of (case_in c.args.first ∷ []) c.args.lines.now
-    c.loop-number.number c.args.begin (c.args.begin + c.loop-number.number) (cases_in (reverse c.loop-number.left.items))
-    c.index-lines-number.result c.in-Err.fault c.loop-number-test.true c.index-lines-number.is (held_before (λ (d : Data) (k : Term → Term).
-    (rest : List PlainLine) → HoldsOfLineFault (FailsToDeal (CaseComesTo (theory_in c.args.setting.now d k) (setting_covers
-    c.args.setting.now) (proving_in c.args.proving.now)) (IsWrongAtCase (theory_in c.args.setting.now d k) (setting_covers
-    c.args.setting.now) (proving_in c.args.proving.now)) bad_line (cases_in (reverse c.loop-number.left.items)) (proof_line_of
-    c.index-lines-number.result ∷ rest) 0) c.in-Err.fault) c.loop-number.invariant.same_data c.loop-number.invariant.same_canon
-    c.in-Err.ensures.wrong) refl c.loop-number.invariant.so_far
+    deal_wrong (CaseComesTo theory (setting_covers c.args.setting.now) (proving_in c.args.proving.now))
+    (IsWrongAtCase theory (setting_covers c.args.setting.now) (proving_in c.args.proving.now)) proof_line_of (case_in c.args.first ∷ [])
+    c.args.lines.now c.loop-number.number c.args.begin (c.args.begin + c.loop-number.number)
+    (cases_in (reverse c.loop-number.left.items)) c.index-lines-number.result c.in-Err.fault c.loop-number-test.true
+    c.index-lines-number.is
+    (held_before (λ (d : Data) (k : Term → Term). (rest : List PlainLine) → HoldsOfLineFault (FailsToDeal
+    (CaseComesTo (theory_in c.args.setting.now d k) (setting_covers c.args.setting.now) (proving_in c.args.proving.now))
+    (IsWrongAtCase (theory_in c.args.setting.now d k) (setting_covers c.args.setting.now) (proving_in c.args.proving.now)) bad_line
+    (cases_in (reverse c.loop-number.left.items)) (proof_line_of c.index-lines-number.result ∷ rest) 0) c.in-Err.fault)
+    c.loop-number.invariant.same_data c.loop-number.invariant.same_canon c.in-Err.ensures.wrong)
+    refl c.loop-number.invariant.so_far
 
 pub returns-then-not-is_empty-clause-wrong : goal.returns-then-not-is_empty-clause-wrong
 returns-then-not-is_empty-clause-wrong g c =

@@ -12,9 +12,10 @@ invariant-loop-number g l = record {
   same_data : g.D.Deciding.known_data l.data_ ≡ g.D.Deciding.known_data l.initial.data_;
   same_canon : g.D.Deciding.canon l.data_ ≡ g.D.Deciding.canon l.initial.data_;
   so_far : DealSoFar
-      (CaseComesTo (theory_in l.setting (g.D.Deciding.known_data l.initial.data_) (g.D.Deciding.canon l.initial.data_)) (setting_covers
-      l.setting) (proving_in l.proving)) (IsWrongAtCase (theory_in l.setting (g.D.Deciding.known_data l.initial.data_) (g.D.Deciding.canon
-      l.initial.data_)) (setting_covers l.setting) (proving_in l.proving)) proof_line_of (case_in l.fn.first ∷ []) l.lines l.number
-      (cases_in (reverse l.left.items));
+      (CaseComesTo (theory_in l.setting (g.D.Deciding.known_data l.initial.data_) (g.D.Deciding.canon l.initial.data_))
+      (setting_covers l.setting) (proving_in l.proving))
+      (IsWrongAtCase (theory_in l.setting (g.D.Deciding.known_data l.initial.data_) (g.D.Deciding.canon l.initial.data_))
+      (setting_covers l.setting) (proving_in l.proving))
+      proof_line_of (case_in l.fn.first ∷ []) l.lines l.number (cases_in (reverse l.left.items));
   known : Each (IsKnownCase (setting_signature l.setting) l.proving.free) (reverse l.left.items);
 }

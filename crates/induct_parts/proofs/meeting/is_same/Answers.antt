@@ -12,14 +12,20 @@ pub returns-in-Some : goal.returns-in-Some
 returns-in-Some c =
     let found : Some (found_pairs c.in-Some.found.items)
     ≡ searched_for c.args.lemma.now c.args.equation.now =
-    ap (λ (o : Option (Vec (ℕ × Bor Term) Global)). option_map (λ (pairs : Vec (ℕ × Bor Term) Global). found_pairs pairs.items) o) (sym
-    c.in-Some.is) ∙ c.in_ok-found.ensures in
-    IfOk-weaker c.are_variables.result _ _ (λ b told. same_decided c.requires.0 c.args.lemma.now c.args.equation.now c.requires.1
-    (found_pairs c.in-Some.found.items) b found (told ∙ ap (λ (sorts : List ℕ). are_renamed sorts [] (found_pairs
-    c.as_slice-in-Some.result.now)) c.as_slice.ensures.value ∙ ap (λ (pairs : List (ℕ × Bor Term)). are_renamed
-    c.args.lemma.now.variables.items [] (found_pairs pairs)) c.as_slice-in-Some.ensures.value)) c.are_variables.ensures
+    ap (λ (o : Option (Vec (ℕ × Bor Term) Global)). option_map (λ (pairs : Vec (ℕ × Bor Term) Global). found_pairs pairs.items) o)
+    (sym c.in-Some.is)
+    ∙ c.in_ok-found.ensures in
+    IfOk-weaker c.are_variables.result _ _
+    (λ b told. same_decided c.requires.0 c.args.lemma.now c.args.equation.now c.requires.1 (found_pairs c.in-Some.found.items) b found
+    (told
+    ∙ ap (λ (sorts : List ℕ). are_renamed sorts [] (found_pairs c.as_slice-in-Some.result.now)) c.as_slice.ensures.value
+    ∙ ap (λ (pairs : List (ℕ × Bor Term)). are_renamed c.args.lemma.now.variables.items [] (found_pairs pairs))
+    c.as_slice-in-Some.ensures.value))
+    c.are_variables.ensures
 
 pub returns-in-None : goal.returns-in-None
 returns-in-None c =
-    not_same_there c.requires.0 c.args.lemma.now c.args.equation.now c.requires.1 (ap (λ (o : Option (Vec (ℕ × Bor Term) Global)).
-    option_map (λ (pairs : Vec (ℕ × Bor Term) Global). found_pairs pairs.items) o) (sym c.in-None.is) ∙ c.in_ok-found.ensures)
+    not_same_there c.requires.0 c.args.lemma.now c.args.equation.now c.requires.1
+    (ap (λ (o : Option (Vec (ℕ × Bor Term) Global)). option_map (λ (pairs : Vec (ℕ × Bor Term) Global). found_pairs pairs.items) o)
+    (sym c.in-None.is)
+    ∙ c.in_ok-found.ensures)

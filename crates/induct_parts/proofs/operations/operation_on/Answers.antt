@@ -13,6 +13,7 @@ of-requires c =
     c.in_ok-arguments.ensures ∙ ap (profiled_variables c.args.next) c.as_slice.ensures.value in
     let profile : operation_of c.in_ok-profile.profile.value ≡ operation_of c.args.op.now =
     ap operation_of c.in_ok-profile.ensures.ok ∙ c.in_ok-copy.ensures in
-    subst FitsProfiles (sym (ap profiled_of c.in_ok-node.ensures)) (subst (FitArguments (all_profiled c.in_ok-arguments.arguments.items))
-    (sym (ap (λ o. o.arguments) profile)) (subst (λ (ts : ProfiledTerms). FitArguments ts (operation_of c.args.op.now).arguments) (sym
-    arguments) (variables_fit c.args.next (operation_of c.args.op.now).arguments)))
+    subst FitsProfiles (sym (ap profiled_of c.in_ok-node.ensures))
+    (subst (FitArguments (all_profiled c.in_ok-arguments.arguments.items)) (sym (ap (λ o. o.arguments) profile))
+    (subst (λ (ts : ProfiledTerms). FitArguments ts (operation_of c.args.op.now).arguments) (sym arguments)
+    (variables_fit c.args.next (operation_of c.args.op.now).arguments)))

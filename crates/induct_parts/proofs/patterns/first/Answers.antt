@@ -12,13 +12,16 @@ returns-clause-first c =
     let signature = c.args.setting.now.signature.now in
     let op = c.index-ops-operation.result in
     let within = operation_within signature c.ops.result.now c.args.operation c.requires.0 c.ops.ensures c.requires.1 in
-    for_operation (setting_signature c.args.setting.now) c.args.operation (λ o. pattern_of c.len.result c.in_ok-term.term ≡ first_pattern
-    (record { number = c.args.operation; operation = o })) (operation_of op) (operation_read signature c.ops.result.now c.args.operation op
-    c.ops.ensures within c.index-ops-operation.is) (first_is c.args.operation (operation_of op) c.in_ok-term.term c.len.result
-    c.in_ok-term.ensures (c.len.ensures ∙ op.arguments.ok.0))
+    for_operation (setting_signature c.args.setting.now) c.args.operation
+    (λ o. pattern_of c.len.result c.in_ok-term.term ≡ first_pattern (record { number = c.args.operation; operation = o }))
+    (operation_of op)
+    (operation_read signature c.ops.result.now c.args.operation op c.ops.ensures within c.index-ops-operation.is)
+    (first_is c.args.operation (operation_of op) c.in_ok-term.term c.len.result c.in_ok-term.ensures (c.len.ensures ∙ op.arguments.ok.0))
 
 pub returns-clause-known : goal.returns-clause-known
 returns-clause-known c =
     let op = c.index-ops-operation.result in
-    subst IsKnownPattern (sym (first_is c.args.operation (operation_of op) c.in_ok-term.term c.len.result c.in_ok-term.ensures
-    (c.len.ensures ∙ op.arguments.ok.0))) (first_known (record { number = c.args.operation; operation = operation_of op }))
+    subst IsKnownPattern
+    (sym (first_is c.args.operation (operation_of op) c.in_ok-term.term c.len.result c.in_ok-term.ensures
+    (c.len.ensures ∙ op.arguments.ok.0)))
+    (first_known (record { number = c.args.operation; operation = operation_of op }))

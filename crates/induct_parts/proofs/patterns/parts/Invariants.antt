@@ -8,7 +8,8 @@ use Rattle.induct_parts.proofs.patterns.parts.Given as goal
 abbrev pub invariant-loop-operation : goal.invariant-loop-operation
 invariant-loop-operation l = record {
   made : IsMadeSoFar (listed_makes (split_with (pattern_in l.pattern) l.number l.sort) l.operations)
-      (setting_signature l.setting).operations (split_patterns (setting_signature l.setting) (pattern_in l.pattern) l.number l.sort
-      l.operations) l.operation (patterns_in l.made.items);
+      (setting_signature l.setting).operations
+      (split_patterns (setting_signature l.setting) (pattern_in l.pattern) l.number l.sort l.operations) l.operation
+      (patterns_in l.made.items);
   known : Each (λ p. IsKnownPattern (pattern_in p)) l.made.items;
 }

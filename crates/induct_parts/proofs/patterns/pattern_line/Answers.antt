@@ -28,4 +28,5 @@ returns-in-Leaf-clause-comes c =
 pub returns-in-Leaf-clause-wrong : goal.returns-in-Leaf-clause-wrong
 returns-in-Leaf-clause-wrong c =
     subst (λ (l : PlainLine). IfErr c.leaf.result (λ fault. HoldsOfLineFault (IsWrongAtPattern (setting_rules c.args.setting.now)
-    (setting_covers c.args.setting.now) (pattern_in c.args.pattern.now) l) fault)) (sym (ap tree_line_of c.in-Leaf.is)) c.leaf.ensures.wrong
+    (setting_covers c.args.setting.now) (pattern_in c.args.pattern.now) l) fault))
+    (sym (ap tree_line_of c.in-Leaf.is)) c.leaf.ensures.wrong

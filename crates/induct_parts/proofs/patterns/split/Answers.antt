@@ -15,8 +15,9 @@ use Rattle.induct_parts.proofs.patterns.split.Goals as goal
 
 pub split_of-requires-clause-occurs : goal.split_of-requires-clause-occurs
 split_of-requires-clause-occurs c =
-    subterm_occurs c.args.path.now (term_in c.args.pattern.now.term) (variable c.in-Some.number c.in-Some.sort) c.in-Some.number
-    c.in-Some.sort c.in-Some.ensures (refl, refl)
+    subterm_occurs c.args.path.now (term_in c.args.pattern.now.term)
+    (variable c.in-Some.number c.in-Some.sort) c.in-Some.number c.in-Some.sort
+    c.in-Some.ensures (refl, refl)
 
 pub returns-in-Some-clause-comes : goal.returns-in-Some-clause-comes
 returns-in-Some-clause-comes c =
@@ -25,10 +26,13 @@ returns-in-Some-clause-comes c =
 
 pub returns-in-Some-clause-wrong : goal.returns-in-Some-clause-wrong
 returns-in-Some-clause-wrong c =
-    IfErr-weaker c.split_of.result _ _ (λ fault h. fault_more (λ told. (cover_of (setting_covers c.args.setting.now) c.in-Some.sort ≡ None)
-    × (told ≡ no_cover)) (IsWrongAtPattern (setting_rules c.args.setting.now) (setting_covers c.args.setting.now) (pattern_in
-    c.args.pattern.now) (split_pattern c.args.path.now)) (λ told k. inr (c.in-Some.number, c.in-Some.sort, c.in-Some.ensures, k.0, k.1))
-    fault h) c.split_of.ensures.wrong
+    IfErr-weaker c.split_of.result _ _
+    (λ fault h. fault_more
+    (λ told. (cover_of (setting_covers c.args.setting.now) c.in-Some.sort ≡ None) × (told ≡ no_cover))
+    (IsWrongAtPattern (setting_rules c.args.setting.now) (setting_covers c.args.setting.now) (pattern_in c.args.pattern.now)
+    (split_pattern c.args.path.now))
+    (λ told k. inr (c.in-Some.number, c.in-Some.sort, c.in-Some.ensures, k.0, k.1)) fault h)
+    c.split_of.ensures.wrong
 
 pub returns-in-None-clause-wrong : goal.returns-in-None-clause-wrong
 returns-in-None-clause-wrong c = inl (c.in-None.ensures, refl)

@@ -23,8 +23,9 @@ behind-requires-clause-put g c =
     let within = operation_within signature c.ops.result.now c.args.operation c.requires.scope.0 c.ops.ensures c.requires.scope.1 in
     let read = operation_read signature c.ops.result.now c.args.operation op c.ops.ensures within c.index-ops-operation.is in
     record {
-      scope = for_operation (setting_signature c.args.setting.now) c.args.operation (λ (o : Operation). IsInScope (case_in c.args.point.now)
-          c.args.number o.result) c.requires.scope.0 c.requires.scope.1 c.requires.scope.2 (operation_of op) read;
+      scope = for_operation (setting_signature c.args.setting.now) c.args.operation
+          (λ (o : Operation). IsInScope (case_in c.args.point.now) c.args.number o.result) c.requires.scope.0 c.requires.scope.1
+          c.requires.scope.2 (operation_of op) read;
       is_operation = read;
       term = on_new c.args.point.now c.args.operation c.len.result op c.in_ok-term.term
           (c.len.ensures ∙ c.args.point.now.sorts.ok.0) c.in_ok-term.ensures;
@@ -42,10 +43,14 @@ put_for-requires g c =
     let signature = c.args.setting.now.signature.now in
     let within = operation_within signature c.ops.result.now c.args.operation c.requires.scope.0 c.ops.ensures c.requires.scope.1 in
     let read = operation_read signature c.ops.result.now c.args.operation op c.ops.ensures within c.index-ops-operation.is in
-    new_in_goal c.args.setting.now c.args.proving.now c.args.point.now c.args.number c.args.operation op c.in_ok-term.term c.requires.known
-    (for_operation (setting_signature c.args.setting.now) c.args.operation (λ (o : Operation). IsInScope (case_in c.args.point.now)
-    c.args.number o.result) c.requires.scope.0 c.requires.scope.1 c.requires.scope.2 (operation_of op) read) read (on_new c.args.point.now
-    c.args.operation c.len.result op c.in_ok-term.term (c.len.ensures ∙ c.args.point.now.sorts.ok.0) c.in_ok-term.ensures)
+    new_in_goal c.args.setting.now c.args.proving.now c.args.point.now c.args.number c.args.operation op c.in_ok-term.term
+    c.requires.known
+    (for_operation (setting_signature c.args.setting.now) c.args.operation
+    (λ (o : Operation). IsInScope (case_in c.args.point.now) c.args.number o.result) c.requires.scope.0 c.requires.scope.1
+    c.requires.scope.2 (operation_of op) read)
+    read
+    (on_new c.args.point.now c.args.operation c.len.result op c.in_ok-term.term (c.len.ensures ∙ c.args.point.now.sorts.ok.0)
+    c.in_ok-term.ensures)
 
 pub normal_both-requires : goal.normal_both-requires
 normal_both-requires g c =
@@ -53,12 +58,16 @@ normal_both-requires g c =
     let signature = c.args.setting.now.signature.now in
     let within = operation_within signature c.ops.result.now c.args.operation c.requires.scope.0 c.ops.ensures c.requires.scope.1 in
     let read = operation_read signature c.ops.result.now c.args.operation op c.ops.ensures within c.index-ops-operation.is in
-    subst (λ (s : Signature). IsStatementOf s c.in_ok-with_term.with_term) c.requires.set.signature (c.in_ok-with_term.ensures.over
-    (setting_signature c.args.setting.now) c.requires.known.goal (new_over c.args.setting.now c.args.proving.now c.args.point.now
-    c.args.number c.args.operation op c.in_ok-term.term c.requires.known (for_operation (setting_signature c.args.setting.now)
-    c.args.operation (λ (o : Operation). IsInScope (case_in c.args.point.now) c.args.number o.result) c.requires.scope.0 c.requires.scope.1
-    c.requires.scope.2 (operation_of op) read) read (on_new c.args.point.now c.args.operation c.len.result op c.in_ok-term.term
-    (c.len.ensures ∙ c.args.point.now.sorts.ok.0) c.in_ok-term.ensures)))
+    subst (λ (s : Signature). IsStatementOf s c.in_ok-with_term.with_term) c.requires.set.signature
+    (c.in_ok-with_term.ensures.over (setting_signature c.args.setting.now) c.requires.known.goal
+    (new_over c.args.setting.now c.args.proving.now c.args.point.now c.args.number c.args.operation op c.in_ok-term.term
+    c.requires.known
+    (for_operation (setting_signature c.args.setting.now) c.args.operation
+    (λ (o : Operation). IsInScope (case_in c.args.point.now) c.args.number o.result) c.requires.scope.0 c.requires.scope.1
+    c.requires.scope.2 (operation_of op) read)
+    read
+    (on_new c.args.point.now c.args.operation c.len.result op c.in_ok-term.term (c.len.ensures ∙ c.args.point.now.sorts.ok.0)
+    c.in_ok-term.ensures)))
 
 pub returns-clause-made : goal.returns-clause-made
 returns-clause-made g c =
@@ -73,12 +82,17 @@ returns-clause-made g c =
       goal = c.in_ok-goal.goal;
     } in
     made_part_for c.args.setting.now c.args.proving.now c.args.point.now c.args.number c.args.operation op c.in_ok-term.term
-    c.requires.known (for_operation (setting_signature c.args.setting.now) c.args.operation (λ (o : Operation). IsInScope (case_in
-    c.args.point.now) c.args.number o.result) c.requires.scope.0 c.requires.scope.1 c.requires.scope.2 (operation_of op) read) read (on_new
-    c.args.point.now c.args.operation c.len.result op c.in_ok-term.term (c.len.ensures ∙ c.args.point.now.sorts.ok.0) c.in_ok-term.ensures)
-    (g.D.Deciding.known_data c.args.data_.now) (g.D.Deciding.canon c.args.data_.now) part c.in_ok-with_term.with_term (c.in_ok-sorts.ensures
-    ∙ (λ i. c.as_slice.ensures.value i ++ c.as_slice-arguments.ensures.value i)) (c.in_ok-gone.ensures ∙ ap (λ (ns : List ℕ). c.args.number
-    ∷ ns) c.as_slice-2.ensures.value) c.in_ok-hypotheses.ensures.behind c.in_ok-with_term.ensures.made c.in_ok-goal.ensures.made
+    c.requires.known
+    (for_operation (setting_signature c.args.setting.now) c.args.operation
+    (λ (o : Operation). IsInScope (case_in c.args.point.now) c.args.number o.result) c.requires.scope.0 c.requires.scope.1
+    c.requires.scope.2 (operation_of op) read)
+    read
+    (on_new c.args.point.now c.args.operation c.len.result op c.in_ok-term.term (c.len.ensures ∙ c.args.point.now.sorts.ok.0)
+    c.in_ok-term.ensures)
+    (g.D.Deciding.known_data c.args.data_.now) (g.D.Deciding.canon c.args.data_.now) part c.in_ok-with_term.with_term
+    (c.in_ok-sorts.ensures ∙ (λ i. c.as_slice.ensures.value i ++ c.as_slice-arguments.ensures.value i))
+    (c.in_ok-gone.ensures ∙ ap (λ (ns : List ℕ). c.args.number ∷ ns) c.as_slice-2.ensures.value)
+    c.in_ok-hypotheses.ensures.behind c.in_ok-with_term.ensures.made c.in_ok-goal.ensures.made
 
 pub returns-clause-known : goal.returns-clause-known
 returns-clause-known g c =
@@ -93,10 +107,15 @@ returns-clause-known g c =
       goal = c.in_ok-goal.goal;
     } in
     made_part_known c.args.setting.now c.args.proving.now c.args.point.now c.args.number c.args.operation op c.in_ok-term.term
-    c.requires.known (for_operation (setting_signature c.args.setting.now) c.args.operation (λ (o : Operation). IsInScope (case_in
-    c.args.point.now) c.args.number o.result) c.requires.scope.0 c.requires.scope.1 c.requires.scope.2 (operation_of op) read) read (on_new
-    c.args.point.now c.args.operation c.len.result op c.in_ok-term.term (c.len.ensures ∙ c.args.point.now.sorts.ok.0) c.in_ok-term.ensures)
-    (g.D.Deciding.known_data c.args.data_.now) (g.D.Deciding.canon c.args.data_.now) part c.in_ok-with_term.with_term (c.in_ok-sorts.ensures
-    ∙ (λ i. c.as_slice.ensures.value i ++ c.as_slice-arguments.ensures.value i)) (c.in_ok-gone.ensures ∙ ap (λ (ns : List ℕ). c.args.number
-    ∷ ns) c.as_slice-2.ensures.value) c.in_ok-hypotheses.ensures.behind c.in_ok-with_term.ensures.made c.in_ok-goal.ensures.made
-    c.requires.set (c.in_ok-goal.ensures.over _ c.requires.set.signature) c.in_ok-hypotheses.ensures.over
+    c.requires.known
+    (for_operation (setting_signature c.args.setting.now) c.args.operation
+    (λ (o : Operation). IsInScope (case_in c.args.point.now) c.args.number o.result) c.requires.scope.0 c.requires.scope.1
+    c.requires.scope.2 (operation_of op) read)
+    read
+    (on_new c.args.point.now c.args.operation c.len.result op c.in_ok-term.term (c.len.ensures ∙ c.args.point.now.sorts.ok.0)
+    c.in_ok-term.ensures)
+    (g.D.Deciding.known_data c.args.data_.now) (g.D.Deciding.canon c.args.data_.now) part c.in_ok-with_term.with_term
+    (c.in_ok-sorts.ensures ∙ (λ i. c.as_slice.ensures.value i ++ c.as_slice-arguments.ensures.value i))
+    (c.in_ok-gone.ensures ∙ ap (λ (ns : List ℕ). c.args.number ∷ ns) c.as_slice-2.ensures.value)
+    c.in_ok-hypotheses.ensures.behind c.in_ok-with_term.ensures.made c.in_ok-goal.ensures.made c.requires.set
+    (c.in_ok-goal.ensures.over _ c.requires.set.signature) c.in_ok-hypotheses.ensures.over

@@ -11,9 +11,13 @@ invariant-loop-operation g l = record {
   same_data : g.D.Deciding.known_data l.data_ ≡ g.D.Deciding.known_data l.initial.data_;
   same_canon : g.D.Deciding.canon l.data_ ≡ g.D.Deciding.canon l.initial.data_;
   made : IsMadeSoFar
-      (listed_makes (case_with (theory_in l.setting (g.D.Deciding.known_data l.initial.data_) (g.D.Deciding.canon l.initial.data_))
-      (proving_in l.proving) (case_in l.point) l.number l.sort) l.operations) (setting_signature l.setting).operations (cases_of_split
-      (theory_in l.setting (g.D.Deciding.known_data l.initial.data_) (g.D.Deciding.canon l.initial.data_)) (proving_in l.proving) (case_in
-      l.point) l.number l.sort l.operations) l.operation (cases_in l.made.items);
+      (listed_makes
+      (case_with (theory_in l.setting (g.D.Deciding.known_data l.initial.data_) (g.D.Deciding.canon l.initial.data_))
+      (proving_in l.proving) (case_in l.point) l.number l.sort)
+      l.operations)
+      (setting_signature l.setting).operations
+      (cases_of_split (theory_in l.setting (g.D.Deciding.known_data l.initial.data_) (g.D.Deciding.canon l.initial.data_))
+      (proving_in l.proving) (case_in l.point) l.number l.sort l.operations)
+      l.operation (cases_in l.made.items);
   known : Each (IsKnownCase (setting_signature l.setting) l.proving.free) l.made.items;
 }

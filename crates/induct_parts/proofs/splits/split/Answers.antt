@@ -17,9 +17,12 @@ returns-in-Some-clause-comes g c =
 pub returns-in-Some-clause-wrong : goal.returns-in-Some-clause-wrong
 returns-in-Some-clause-wrong g c =
     let theory = theory_in c.args.setting.now (g.D.Deciding.known_data c.args.data_.now) (g.D.Deciding.canon c.args.data_.now) in
-    IfErr-weaker c.split_of.result _ _ (λ fault h. fault_more (λ told. (cover_of (setting_covers c.args.setting.now) c.in-Some.sort ≡ None)
-    × (told ≡ no_cover)) (IsWrongAtCase theory (setting_covers c.args.setting.now) (proving_in c.args.proving.now) (case_in
-    c.args.point.now) (split_variable c.args.number)) (λ told k. inr (c.in-Some.sort, c.in-Some.ensures, k.0, k.1)) fault h)
+    IfErr-weaker c.split_of.result _ _
+    (λ fault h. fault_more
+    (λ told. (cover_of (setting_covers c.args.setting.now) c.in-Some.sort ≡ None) × (told ≡ no_cover))
+    (IsWrongAtCase theory (setting_covers c.args.setting.now) (proving_in c.args.proving.now) (case_in c.args.point.now)
+    (split_variable c.args.number))
+    (λ told k. inr (c.in-Some.sort, c.in-Some.ensures, k.0, k.1)) fault h)
     c.split_of.ensures.wrong
 
 pub returns-in-None-clause-wrong : goal.returns-in-None-clause-wrong

@@ -23,16 +23,18 @@ loop-number-init c = record {
       let theory = theory_in c.args.setting.now data_ canon in
       let covers = setting_covers c.args.setting.now in
       subst (λ (line : ℕ). RightSoFar (IsRightTree theory covers) (IsWrongTree theory covers) lines_of_tree tree_in (1 + length covers)
-      c.args.trees.now 0 line) (ap (λ (k : ℕ). 1 + k) (length-map c.args.setting.now.covers.now cover_in)) (things_begin (IsRightTree theory
-      covers) (IsWrongTree theory covers) lines_of_tree tree_in (1 + length covers) c.args.trees.now);
+      c.args.trees.now 0 line)
+      (ap (λ (k : ℕ). 1 + k) (length-map c.args.setting.now.covers.now cover_in))
+      (things_begin (IsRightTree theory covers) (IsWrongTree theory covers) lines_of_tree tree_in (1 + length covers) c.args.trees.now);
   few = refl;
 }
 
 pub check_tree-requires-clause-operation : goal.check_tree-requires-clause-operation
 check_tree-requires-clause-operation c =
     each_member (λ (tree : CodeTree). (operation : Operation) × IsOperation (setting_signature c.args.setting.now) tree.operation operation)
-    c.args.trees.now c.loop-number.number c.index-trees-number.result c.requires.operations (slice_get_read c.args.trees.now (length
-    c.args.trees.now) c.loop-number.number c.index-trees-number.result refl c.loop-number-test.true c.index-trees-number.is)
+    c.args.trees.now c.loop-number.number c.index-trees-number.result c.requires.operations
+    (slice_get_read c.args.trees.now (length c.args.trees.now) c.loop-number.number c.index-trees-number.result refl c.loop-number-test.true
+    c.index-trees-number.is)
 
 pub check_tree-requires-clause-few : goal.check_tree-requires-clause-few
 check_tree-requires-clause-few c =
@@ -44,9 +46,11 @@ pub returns-in_err-check_tree-clause-wrong : goal.returns-in_err-check_tree-clau
 returns-in_err-check_tree-clause-wrong c =
     let covers = setting_covers c.args.setting.now in
     let at = c.in_err-check_tree.field-0.0 in
-    handed_on (λ (told : AtLine). (data_ : Data) (canon : Term → Term) → HoldsAtLine (FirstIsWrong (IsRightTree (theory_in
-    c.args.setting.now data_ canon) covers) (IsWrongTree (theory_in c.args.setting.now data_ canon) covers) lines_of_tree (1 + length
-    covers) [] (trees_in c.args.trees.now)) told) c.from_residual.result at c.from_residual.ensures.1 (λ data_ canon.
+    handed_on (λ (told : AtLine). (data_ : Data) (canon : Term → Term) → HoldsAtLine (FirstIsWrong
+    (IsRightTree (theory_in c.args.setting.now data_ canon) covers) (IsWrongTree (theory_in c.args.setting.now data_ canon) covers)
+    lines_of_tree (1 + length covers) [] (trees_in c.args.trees.now)) told)
+    c.from_residual.result at c.from_residual.ensures.1
+    (λ data_ canon.
     let theory = theory_in c.args.setting.now data_ canon in
     thing_wrong (IsRightTree theory covers) (IsWrongTree theory covers) lines_of_tree tree_in (1 + length covers) c.args.trees.now
     c.loop-number.number c.loop-number.line at.line c.index-trees-number.result at.fault c.loop-number-test.true
@@ -62,8 +66,9 @@ loop-number-preserved c =
           let covers = setting_covers c.args.setting.now in
           things_go_on (IsRightTree theory covers) (IsWrongTree theory covers) lines_of_tree tree_in (1 + length covers) c.args.trees.now
           c.loop-number.number c.loop-number.line (c.loop-number.line + (1 + c.len.result)) c.index-trees-number.result
-          c.loop-number-test.true c.index-trees-number.is (c.in_ok-check_tree.ensures.right data_ canon) (more ∙ ap (λ (k : ℕ).
-          c.loop-number.line + k) (sym (tree_length c.index-trees-number.result))) (c.loop-number.invariant.so_far data_ canon);
+          c.loop-number-test.true c.index-trees-number.is (c.in_ok-check_tree.ensures.right data_ canon)
+          (more ∙ ap (λ (k : ℕ). c.loop-number.line + k) (sym (tree_length c.index-trees-number.result)))
+          (c.loop-number.invariant.so_far data_ canon);
       few = trees_go_on c.args.trees.now c.loop-number.number c.loop-number.line (c.loop-number.line + (1 + c.len.result)) _
           c.index-trees-number.result c.loop-number-test.true c.index-trees-number.is more c.loop-number.invariant.few;
     }

@@ -13,9 +13,11 @@ loop-number-init c =
     let alone = pushed_alone c.new-left.result.items c.push.new.self.items c.args.first c.new-left.ensures.items
     c.in_ok-push.ensures.items in
     record {
-      so_far = deal_begins (PatternComesTo (setting_signature c.args.setting.now) (setting_rules c.args.setting.now) (setting_covers
-          c.args.setting.now)) (IsWrongAtPattern (setting_rules c.args.setting.now) (setting_covers c.args.setting.now)) tree_line_of
-          (pattern_in c.args.first ∷ []) c.args.lines.now (patterns_in (reverse c.push.new.self.items)) (ap (map pattern_in) alone);
+      so_far = deal_begins (PatternComesTo (setting_signature c.args.setting.now) (setting_rules c.args.setting.now)
+          (setting_covers c.args.setting.now))
+          (IsWrongAtPattern (setting_rules c.args.setting.now) (setting_covers c.args.setting.now)) tree_line_of
+          (pattern_in c.args.first ∷ [])
+          c.args.lines.now (patterns_in (reverse c.push.new.self.items)) (ap (map pattern_in) alone);
       known = subst (Each (λ p. IsKnownPattern (pattern_in p))) (sym alone) (c.requires.known, tt);
     }
 
@@ -31,11 +33,12 @@ loop-number-preserved c = record {
 
 pub returns-in-Err-clause-wrong : goal.returns-in-Err-clause-wrong
 returns-in-Err-clause-wrong c =
-    deal_wrong (PatternComesTo (setting_signature c.args.setting.now) (setting_rules c.args.setting.now) (setting_covers
-    c.args.setting.now)) (IsWrongAtPattern (setting_rules c.args.setting.now) (setting_covers c.args.setting.now)) tree_line_of (pattern_in
-    c.args.first ∷ []) c.args.lines.now c.loop-number.number c.args.begin (c.args.begin + c.loop-number.number) (patterns_in (reverse
-    c.loop-number.left.items)) c.index-lines-number.result c.in-Err.fault c.loop-number-test.true c.index-lines-number.is
-    c.in-Err.ensures.wrong refl c.loop-number.invariant.so_far
+    deal_wrong (PatternComesTo (setting_signature c.args.setting.now) (setting_rules c.args.setting.now)
+    (setting_covers c.args.setting.now))
+    (IsWrongAtPattern (setting_rules c.args.setting.now) (setting_covers c.args.setting.now)) tree_line_of (pattern_in c.args.first ∷ [])
+    c.args.lines.now c.loop-number.number c.args.begin (c.args.begin + c.loop-number.number)
+    (patterns_in (reverse c.loop-number.left.items)) c.index-lines-number.result c.in-Err.fault c.loop-number-test.true
+    c.index-lines-number.is c.in-Err.ensures.wrong refl c.loop-number.invariant.so_far
 
 pub returns-then-not-is_empty-clause-wrong : goal.returns-then-not-is_empty-clause-wrong
 returns-then-not-is_empty-clause-wrong c =
@@ -46,10 +49,11 @@ returns-then-not-is_empty-clause-wrong c =
     stack_some c.loop-number.left.items c.loop-number.left.len c.is_empty.result c.loop-number.left.ok.0 c.is_empty.ensures
     (cc c.if-not-is_empty.true) in
     let some = some_left pattern_in c.loop-number.left.items more in
-    deal_missing (PatternComesTo (setting_signature c.args.setting.now) (setting_rules c.args.setting.now) (setting_covers
-    c.args.setting.now)) (IsWrongAtPattern (setting_rules c.args.setting.now) (setting_covers c.args.setting.now)) tree_line_of (pattern_in
-    c.args.first ∷ []) c.args.lines.now c.loop-number.number c.args.begin (c.args.begin + length c.args.lines.now) (patterns_in (reverse
-    c.loop-number.left.items)) some.1 some.0 past some.2 at c.loop-number.invariant.so_far
+    deal_missing (PatternComesTo (setting_signature c.args.setting.now) (setting_rules c.args.setting.now)
+    (setting_covers c.args.setting.now))
+    (IsWrongAtPattern (setting_rules c.args.setting.now) (setting_covers c.args.setting.now)) tree_line_of (pattern_in c.args.first ∷ [])
+    c.args.lines.now c.loop-number.number c.args.begin (c.args.begin + length c.args.lines.now)
+    (patterns_in (reverse c.loop-number.left.items)) some.1 some.0 past some.2 at c.loop-number.invariant.so_far
 
 pub returns-clause-right : goal.returns-clause-right
 returns-clause-right c =

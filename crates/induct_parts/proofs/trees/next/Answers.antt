@@ -20,29 +20,36 @@ pattern_line-requires-clause-known c =
 
 pub returns-in_default-clause-wrong : goal.returns-in_default-clause-wrong
 returns-in_default-clause-wrong c =
-    next_surplus (PatternComesTo (setting_signature c.args.setting.now) (setting_rules c.args.setting.now) (setting_covers
-    c.args.setting.now)) (IsWrongAtPattern (setting_rules c.args.setting.now) (setting_covers c.args.setting.now)) pattern_in
-    c.args.left.now.items (tree_line_of c.args.line.now) (nil_from_length c.args.left.now.items (sym c.args.left.now.ok.0 ∙
-    c.in_default.ensures.cases.0))
+    next_surplus (PatternComesTo (setting_signature c.args.setting.now) (setting_rules c.args.setting.now)
+    (setting_covers c.args.setting.now))
+    (IsWrongAtPattern (setting_rules c.args.setting.now) (setting_covers c.args.setting.now)) pattern_in c.args.left.now.items
+    (tree_line_of c.args.line.now)
+    (nil_from_length c.args.left.now.items (sym c.args.left.now.ok.0 ∙ c.in_default.ensures.cases.0))
 
 pub returns-in_err-parts-clause-wrong : goal.returns-in_err-parts-clause-wrong
 returns-in_err-parts-clause-wrong c =
-    handed_on (λ (fault : LineFault). (rest : List TreeLine) → HoldsOfLineFault (FailsToDeal (PatternComesTo (setting_signature
-    c.args.setting.now) (setting_rules c.args.setting.now) (setting_covers c.args.setting.now)) (IsWrongAtPattern (setting_rules
-    c.args.setting.now) (setting_covers c.args.setting.now)) bad_line (map pattern_in (reverse c.args.left.now.items)) (tree_line_of
-    c.args.line.now ∷ rest) 0) fault) c.from_residual.result c.in_err-parts.field-0.0 c.from_residual.ensures.1 (next_wrong (PatternComesTo
-    (setting_signature c.args.setting.now) (setting_rules c.args.setting.now) (setting_covers c.args.setting.now)) (IsWrongAtPattern
-    (setting_rules c.args.setting.now) (setting_covers c.args.setting.now)) pattern_in c.args.left.now.items c.pop.new.self.items
-    c.in-Some.pattern (tree_line_of c.args.line.now) c.in_err-parts.field-0.0 c.in-Some.ensures.items c.in_err-parts.ensures.wrong)
+    handed_on (λ (fault : LineFault). (rest : List TreeLine) → HoldsOfLineFault (FailsToDeal (PatternComesTo
+    (setting_signature c.args.setting.now) (setting_rules c.args.setting.now) (setting_covers c.args.setting.now))
+    (IsWrongAtPattern (setting_rules c.args.setting.now) (setting_covers c.args.setting.now)) bad_line
+    (map pattern_in (reverse c.args.left.now.items)) (tree_line_of c.args.line.now ∷ rest) 0) fault)
+    c.from_residual.result c.in_err-parts.field-0.0 c.from_residual.ensures.1
+    (next_wrong (PatternComesTo (setting_signature c.args.setting.now) (setting_rules c.args.setting.now)
+    (setting_covers c.args.setting.now))
+    (IsWrongAtPattern (setting_rules c.args.setting.now) (setting_covers c.args.setting.now)) pattern_in c.args.left.now.items
+    c.pop.new.self.items c.in-Some.pattern (tree_line_of c.args.line.now) c.in_err-parts.field-0.0 c.in-Some.ensures.items
+    c.in_err-parts.ensures.wrong)
 
 pub returns-clause-comes : goal.returns-clause-comes
 returns-clause-comes c =
-    next_reach (PatternComesTo (setting_signature c.args.setting.now) (setting_rules c.args.setting.now) (setting_covers
-    c.args.setting.now)) (IsWrongAtPattern (setting_rules c.args.setting.now) (setting_covers c.args.setting.now)) pattern_in
-    c.args.left.now.items c.pop.new.self.items c.pile.new.left.items c.in_ok-parts.parts.items c.in-Some.pattern (tree_line_of
-    c.args.line.now) c.in-Some.ensures.items c.in_ok-parts.ensures.comes c.in_ok-pile.ensures
+    next_reach (PatternComesTo (setting_signature c.args.setting.now) (setting_rules c.args.setting.now)
+    (setting_covers c.args.setting.now))
+    (IsWrongAtPattern (setting_rules c.args.setting.now) (setting_covers c.args.setting.now)) pattern_in c.args.left.now.items
+    c.pop.new.self.items c.pile.new.left.items c.in_ok-parts.parts.items c.in-Some.pattern (tree_line_of c.args.line.now)
+    c.in-Some.ensures.items
+    c.in_ok-parts.ensures.comes c.in_ok-pile.ensures
 
 pub returns-clause-known : goal.returns-clause-known
 returns-clause-known c =
     next_known (λ p. IsKnownPattern (pattern_in p)) c.args.left.now.items c.pop.new.self.items c.pile.new.left.items
-    c.in_ok-parts.parts.items c.in-Some.pattern c.in-Some.ensures.items c.requires.known c.in_ok-parts.ensures.known c.in_ok-pile.ensures
+    c.in_ok-parts.parts.items
+    c.in-Some.pattern c.in-Some.ensures.items c.requires.known c.in_ok-parts.ensures.known c.in_ok-pile.ensures

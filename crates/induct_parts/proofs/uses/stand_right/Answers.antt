@@ -10,7 +10,8 @@ use Rattle.induct_parts.proofs.uses.stand_right.Goals as goal
 pub returns-then-not-stands_right : goal.returns-then-not-stands_right
 returns-then-not-stands_right c =
     says_no (each_fails (StandsRight c.args.proving.now c.args.source) c.args.pairs.now c.loop-pair.pair-index c.pair-item.result
-    c.loop-pair-test.true c.pair-item.is (λ stands.
+    c.loop-pair-test.true c.pair-item.is
+    (λ stands.
     let t : IsTrue c.stands_right.result =
     c.stands_right.ensures.1 (subst (IsItself (proving_in c.args.proving.now) (use_source_of c.args.source) c.pair-item.result.0)
     (sym c.term.ensures) stands) in
@@ -19,8 +20,10 @@ returns-then-not-stands_right c =
 pub loop-pair-preserved : goal.loop-pair-preserved
 loop-pair-preserved c =
     each_take_more (StandsRight c.args.proving.now c.args.source) c.args.pairs.now c.loop-pair.pair-index c.pair-item.result
-    c.loop-pair-test.true c.pair-item.is (subst (IsItself (proving_in c.args.proving.now) (use_source_of c.args.source)
-    c.pair-item.result.0) c.term.ensures (c.stands_right.ensures.0 (cc c.if-not-stands_right.false))) c.loop-pair.invariant
+    c.loop-pair-test.true c.pair-item.is
+    (subst (IsItself (proving_in c.args.proving.now) (use_source_of c.args.source) c.pair-item.result.0) c.term.ensures
+    (c.stands_right.ensures.0 (cc c.if-not-stands_right.false)))
+    c.loop-pair.invariant
 
 pub returns : goal.returns
 returns c =

@@ -13,10 +13,12 @@ use Rattle.induct_parts.proofs.UseSources.{hypothesis_source, lemma_source, no_h
 use Rattle.induct_parts.proofs.uses.statement_at.Goals as goal
 
 pub returns-in-Some : goal.returns-in-Some
-returns-in-Some c = λ setting known before. subst (λ (s : Source). IsKnownSource setting c.args.proving.now c.args.point.now s
-    c.in-Some.lemma.now.statement) (sym c.in-Lemma.is) (lemma_source setting c.args.proving.now c.args.point.now c.in-Lemma.number
-    c.in-Some.lemma.now before (slice_get_read c.args.proving.now.earlier.now (length c.args.proving.now.earlier.now) c.in-Lemma.number
-    c.in-Some.lemma.now refl (ltb-true _ _ (sym c.in-Some.ensures.lookup.0)) c.in-Some.ensures.lookup.1))
+returns-in-Some c = λ setting known before.
+    subst (λ (s : Source). IsKnownSource setting c.args.proving.now c.args.point.now s c.in-Some.lemma.now.statement)
+    (sym c.in-Lemma.is)
+    (lemma_source setting c.args.proving.now c.args.point.now c.in-Lemma.number c.in-Some.lemma.now before
+    (slice_get_read c.args.proving.now.earlier.now (length c.args.proving.now.earlier.now) c.in-Lemma.number c.in-Some.lemma.now refl
+    (ltb-true _ _ (sym c.in-Some.ensures.lookup.0)) c.in-Some.ensures.lookup.1))
 
 pub returns-in-Some-get : goal.returns-in-Some-get
 returns-in-Some-get c = λ setting known before.

@@ -29,7 +29,8 @@ matches-requires c =
 pub returns-in_default-clause-none : goal.returns-in_default-clause-none
 returns-in_default-clause-none c =
     let site = c.args.site.now in
-    no_match site.setting.now site.proving.now site.point.now site.use_.now site.statement.now c.taken-old.result.now c.args.part.now
+    no_match site.setting.now site.proving.now site.point.now site.use_.now site.statement.now c.taken-old.result.now
+    c.args.part.now
     c.requires.known c.requires.source c.taken-old.ensures c.requires.part (c.in_ok-subst.ensures.none.0 c.in_default.is)
 
 pub returns-then-not-stand_right-clause-none : goal.returns-then-not-stand_right-clause-none
@@ -41,11 +42,15 @@ returns-then-not-stand_right-clause-none c =
     let matched : IsMatchedBy (profiled_in (taken_in site.use_.now.direction site.statement.now)) (profiled_in c.args.part.now)
     (profiled_pairs c.in-Some.subst.pairs.items) =
     subst (λ (t : Sorted). IsMatchedBy (profiled_in t) (profiled_in c.args.part.now) (profiled_pairs c.in-Some.subst.pairs.items))
-    c.taken-old.ensures (if_some_at (λ (found : Subst). IsMatchedBy (profiled_in c.taken-old.result.now) (profiled_in c.args.part.now)
+    c.taken-old.ensures
+    (if_some_at (λ (found : Subst). IsMatchedBy (profiled_in c.taken-old.result.now) (profiled_in c.args.part.now)
     (profiled_pairs found.pairs.items)) c.in_ok-subst.field-0 c.in-Some.subst c.in-Some.is c.in_ok-subst.ensures.some) in
-    no_standing site.setting.now site.proving.now site.point.now site.use_.now site.statement.now c.in-Some.subst (profiled_in
-    c.args.part.now) (matched_part site.setting.now site.proving.now site.point.now site.use_.now site.statement.now c.in-Some.subst
-    (profiled_in c.args.part.now) c.requires.known c.requires.source c.requires.part same matched) c.requires.source c.requires.part (λ all.
+    no_standing site.setting.now site.proving.now site.point.now site.use_.now site.statement.now c.in-Some.subst
+    (profiled_in c.args.part.now)
+    (matched_part site.setting.now site.proving.now site.point.now site.use_.now site.statement.now c.in-Some.subst
+    (profiled_in c.args.part.now) c.requires.known c.requires.source c.requires.part same matched)
+    c.requires.source c.requires.part
+    (λ all.
     let t : IsTrue c.stand_right.result =
     c.stand_right.ensures.1 (subst (Each (StandsRight site.proving.now site.use_.now.source)) (sym c.pairs.ensures) all) in
     absurd (cc (t, c.if-not-stand_right.true)))
@@ -54,9 +59,11 @@ pub returns-then-not-is_closed-clause-none : goal.returns-then-not-is_closed-cla
 returns-then-not-is_closed-clause-none c =
     let site = c.args.site.now in
     not_closed site.setting.now site.proving.now site.point.now site.use_.now site.statement.now (profiled_in c.args.part.now)
-    c.requires.source c.requires.part ((λ i. each_variable (closes (proving_in site.proving.now) (use_source_of site.use_.now.source)
-    (term_of (sym (c.term-2.ensures ∙ ap (λ (t : Sorted). t.term) c.taken-old.ensures) i))) (term_of (sym (c.term.ensures ∙ ap (λ (t :
-    Sorted). t.term) c.placed-new.ensures) i))) ∙ (sym c.is_closed.ensures ∙ cc c.if-not-is_closed.true))
+    c.requires.source c.requires.part
+    ((λ i. each_variable (closes (proving_in site.proving.now) (use_source_of site.use_.now.source)
+    (term_of (sym (c.term-2.ensures ∙ ap (λ (t : Sorted). t.term) c.taken-old.ensures) i)))
+    (term_of (sym (c.term.ensures ∙ ap (λ (t : Sorted). t.term) c.placed-new.ensures) i)))
+    ∙ (sym c.is_closed.ensures ∙ cc c.if-not-is_closed.true))
 
 pub replaced-requires-clause-matched : goal.replaced-requires-clause-matched
 replaced-requires-clause-matched c =
@@ -67,7 +74,8 @@ replaced-requires-clause-matched c =
     let matched : IsMatchedBy (profiled_in (taken_in site.use_.now.direction site.statement.now)) (profiled_in c.args.part.now)
     (profiled_pairs c.in-Some.subst.pairs.items) =
     subst (λ (t : Sorted). IsMatchedBy (profiled_in t) (profiled_in c.args.part.now) (profiled_pairs c.in-Some.subst.pairs.items))
-    c.taken-old.ensures (if_some_at (λ (found : Subst). IsMatchedBy (profiled_in c.taken-old.result.now) (profiled_in c.args.part.now)
+    c.taken-old.ensures
+    (if_some_at (λ (found : Subst). IsMatchedBy (profiled_in c.taken-old.result.now) (profiled_in c.args.part.now)
     (profiled_pairs found.pairs.items)) c.in_ok-subst.field-0 c.in-Some.subst c.in-Some.is c.in_ok-subst.ensures.some) in
     record {
       part = profiled_in c.args.part.now;
@@ -76,7 +84,8 @@ replaced-requires-clause-matched c =
       matched = matched;
       stand = subst (Each (StandsRight site.proving.now site.use_.now.source)) c.pairs.ensures
           (c.stand_right.ensures.0 (cc c.if-not-stand_right.false));
-      closed = (λ i. each_variable (closes (proving_in site.proving.now) (use_source_of site.use_.now.source) (term_of (sym
-          (c.term-2.ensures ∙ ap (λ (t : Sorted). t.term) c.taken-old.ensures) i))) (term_of (sym (c.term.ensures ∙ ap (λ (t : Sorted).
-          t.term) c.placed-new.ensures) i))) ∙ (sym c.is_closed.ensures ∙ cc c.if-not-is_closed.false);
+      closed = (λ i. each_variable (closes (proving_in site.proving.now) (use_source_of site.use_.now.source)
+          (term_of (sym (c.term-2.ensures ∙ ap (λ (t : Sorted). t.term) c.taken-old.ensures) i)))
+          (term_of (sym (c.term.ensures ∙ ap (λ (t : Sorted). t.term) c.placed-new.ensures) i)))
+          ∙ (sym c.is_closed.ensures ∙ cc c.if-not-is_closed.false);
     }

@@ -35,7 +35,10 @@ returns-clause-kept g c =
     let basis = ground_of (g.D.Deciding.known_data c.args.decider.now) (g.D.Deciding.canon c.args.decider.now) c.args.making.now.spec.now in
     let exact = subst (λ (n : Node). IsExactOn basis (stands_for n) (map plain_entry c.in_ok-entries.entries.items)) c.deref.ensures
     c.in_ok-entries.ensures.exact in
-    IfOk-weaker c.shared.result _ _ (λ made e. whole_kept basis c.args.node.now.value _ c.in_ok-node.ensures (subst (λ (entries : List
-    solving.Entry). IsExactOn basis (stands_for c.args.node.now.value) entries) (sym c.in_ok-items.ensures.same) exact) (taken_terms
-    basis.data_.signature c.in_ok-entries.entries.items c.in_ok-items.items.items c.in_ok-items.ensures.terms c.in_ok-entries.ensures.over)
+    IfOk-weaker c.shared.result _ _ (λ made e.
+    whole_kept basis c.args.node.now.value _ c.in_ok-node.ensures
+    (subst (λ (entries : List solving.Entry). IsExactOn basis (stands_for c.args.node.now.value) entries) (sym c.in_ok-items.ensures.same)
+    exact)
+    (taken_terms basis.data_.signature c.in_ok-entries.entries.items c.in_ok-items.items.items c.in_ok-items.ensures.terms
+    c.in_ok-entries.ensures.over)
     made.value e) c.shared.ensures

@@ -29,14 +29,16 @@ returns-clause-form g c =
     let made = c.in_ok-inner.inner.value in
     let whole = call c.args.process gates (terms_of values) in
     let at = sym c.called_at.ensures ∙ ap (option_map (λ p. p.now)) c.in-Some.is in
-    let closed = subst (λ (x : Behaviour). IsClosedOn basis x) (sym c.in_ok-body.ensures.same) (call_closed basis c.requires.base.is_canon
-    c.requires.base.over c.in-Some.called.now values (is_called basis c.requires.base.is_canon c.requires.base.over c.args.process gates
-    c.in-Some.called.now values at c.requires.part.closed c.requires.part.terms_of_signature)) in (
+    let closed = subst (λ (x : Behaviour). IsClosedOn basis x) (sym c.in_ok-body.ensures.same)
+    (call_closed basis c.requires.base.is_canon c.requires.base.over c.in-Some.called.now values
+    (is_called basis c.requires.base.is_canon c.requires.base.over c.args.process gates c.in-Some.called.now values at
+    c.requires.part.closed c.requires.part.terms_of_signature)) in (
       passable_node basis (behaviour_of c.in_ok-body.body) made c.in_ok-inner.ensures.same
           (c.in_ok-inner.ensures.terms basis.data_.signature c.in_ok-body.ensures.terms)
           (c.in_ok-inner.ensures.closed_parts basis.data_.signature (specification_of basis.spec) closed) closed,
       subst (λ (pairs : Relabelling). (entries : List Entry) → IsExactOn basis (stands_for made) entries
-          → IsExactOn basis whole (call_menu pairs entries)) (sym c.in_ok-pairs.ensures) (call_made basis c.requires.base c.args.process
-          gates (terms_of values) process made (c.in_ok-inner.ensures.same ∙ c.in_ok-body.ensures.same) (at_map process_of
-          basis.spec.processes.items c.args.process c.in-Some.called.now at) c.requires.part.closed),
+          → IsExactOn basis whole (call_menu pairs entries)) (sym c.in_ok-pairs.ensures)
+          (call_made basis c.requires.base c.args.process gates (terms_of values) process made
+          (c.in_ok-inner.ensures.same ∙ c.in_ok-body.ensures.same)
+          (at_map process_of basis.spec.processes.items c.args.process c.in-Some.called.now at) c.requires.part.closed),
     )

@@ -17,9 +17,11 @@ returns c = λ basis base part.
     let b = behaviour_of c.args.part.now.value in
     let made = c.in_ok-inner.inner.value in
     let same = ap stands_for c.in_ok-inner.ensures ∙ c.in_ok-copies.ensures.same in (
-      passable_node basis (copies g gates meet b) made same (subst (λ (node : Node). AreTermsOf basis.data_.signature (node_profiles node))
-          (sym c.in_ok-inner.ensures) (c.in_ok-copies.ensures.terms basis.data_.signature part.terms_of_signature)) (parts_as made
-          c.in_ok-copies.copies c.in_ok-inner.ensures (c.in_ok-copies.ensures.closed_parts basis.data_.signature (specification_of
-          basis.spec) part.closed.4)) (copies_closed basis base g gates meet b part.closed),
+      passable_node basis (copies g gates meet b) made same
+          (subst (λ (node : Node). AreTermsOf basis.data_.signature (node_profiles node)) (sym c.in_ok-inner.ensures)
+          (c.in_ok-copies.ensures.terms basis.data_.signature part.terms_of_signature))
+          (parts_as made c.in_ok-copies.copies c.in_ok-inner.ensures (c.in_ok-copies.ensures.closed_parts basis.data_.signature
+          (specification_of basis.spec) part.closed.4))
+          (copies_closed basis base g gates meet b part.closed),
       copies_made basis base g gates meet b made same part.closed,
     )

@@ -22,8 +22,9 @@ returns-in_ok-second-in-Nothing c = λ basis base part state other.
       passable_side basis right second c.in_ok-second-in-Nothing.ensures.same c.in_ok-second-in-Nothing.ensures.terms
           c.in_ok-second-in-Nothing.ensures.closed_parts other (second_terms basis.data_.signature (side_profiles left)
           (side_profiles right) part.terms_of_signature) part.closed.2,
-      subst (λ (m : SynchronisationSet). IsMadeBeside basis no_gates (stands_for first) (stands_for second) (parallel m (side_of left)
-          (side_of right))) (sym meet) (parallel_made basis base no_gates (side_of left) (side_of right) first second
-          c.in_ok-first-in-Nothing.ensures.same c.in_ok-second-in-Nothing.ensures.same (subst (λ (m : SynchronisationSet). IsClosedOn basis
-          (parallel m (side_of left) (side_of right))) meet part.closed)),
+      subst (λ (m : SynchronisationSet). IsMadeBeside basis no_gates (stands_for first) (stands_for second)
+          (parallel m (side_of left) (side_of right))) (sym meet)
+          (parallel_made basis base no_gates (side_of left) (side_of right) first second c.in_ok-first-in-Nothing.ensures.same
+          c.in_ok-second-in-Nothing.ensures.same
+          (subst (λ (m : SynchronisationSet). IsClosedOn basis (parallel m (side_of left) (side_of right))) meet part.closed)),
     )

@@ -33,15 +33,18 @@ closed_part-requires c =
 
 pub returns-clause-same : goal.returns-clause-same
 returns-clause-same c =
-    IfOk-weaker c.closed_part.result _ _ (λ made e. e ∙ (ap (λ (b : Beh). with_values (binding (environment_of c.in-Part.environment.items))
-    (behaviour_of b)) c.deref-2.ensures ∙ sym (ap stands_for (sym c.deref.ensures ∙ c.in-Part.is)))) c.closed_part.ensures.same
+    IfOk-weaker c.closed_part.result _ _ (λ made e. e
+    ∙ (ap (λ (b : Beh). with_values (binding (environment_of c.in-Part.environment.items)) (behaviour_of b)) c.deref-2.ensures
+    ∙ sym (ap stands_for (sym c.deref.ensures ∙ c.in-Part.is)))) c.closed_part.ensures.same
 
 pub returns-clause-passable : goal.returns-clause-passable
 returns-clause-passable c =
     let is = sym c.deref.ensures ∙ c.in-Part.is in
     let given = sym c.deref-2.ensures in
-    IfOk-weaker c.closed_part.result _ _ (λ made e basis h. e basis (passable_as basis (stands_for c.args.node.now.value) (with_values
-    (binding (environment_of c.in-Part.environment.items)) (behaviour_of c.deref-2.result.now)) (node_profiles c.args.node.now.value)
-    (profiles_in c.deref-2.result.now ++ map pair_profile c.in-Part.environment.items) (ap stands_for is ∙ ap (λ (b : Beh). with_values
-    (binding (environment_of c.in-Part.environment.items)) (behaviour_of b)) given) (ap node_profiles is ∙ ap (λ (b : Beh). profiles_in b ++
-    map pair_profile c.in-Part.environment.items) given) h.passable)) c.closed_part.ensures.passable
+    IfOk-weaker c.closed_part.result _ _ (λ made e basis h. e basis
+    (passable_as basis (stands_for c.args.node.now.value)
+    (with_values (binding (environment_of c.in-Part.environment.items)) (behaviour_of c.deref-2.result.now))
+    (node_profiles c.args.node.now.value) (profiles_in c.deref-2.result.now ++ map pair_profile c.in-Part.environment.items)
+    (ap stands_for is ∙ ap (λ (b : Beh). with_values (binding (environment_of c.in-Part.environment.items)) (behaviour_of b)) given)
+    (ap node_profiles is ∙ ap (λ (b : Beh). profiles_in b ++ map pair_profile c.in-Part.environment.items) given) h.passable))
+    c.closed_part.ensures.passable

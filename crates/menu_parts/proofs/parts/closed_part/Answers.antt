@@ -21,8 +21,9 @@ returns-clause-passable c = λ basis h.
     let environment = c.args.environment.now.items in
     let behaviour = c.args.behaviour.now in
     let closed = subst (λ (b : Behaviour). IsClosedOn basis b) (sym c.in_ok-made.ensures.same) h.closed in
-    passable_node basis (behaviour_of c.in_ok-made.made) c.in_ok-own.own.value c.in_ok-own.ensures.same (c.in_ok-own.ensures.terms
-    basis.data_.signature (instance_over basis environment behaviour c.in_ok-made.made c.in_ok-made.ensures.terms (first_terms
-    basis.data_.signature (profiles_in behaviour) (map pair_profile environment) h.terms_of_signature) (second_terms basis.data_.signature
-    (profiles_in behaviour) (map pair_profile environment) h.terms_of_signature))) (c.in_ok-own.ensures.closed_parts basis.data_.signature
-    (specification_of basis.spec) closed) closed
+    passable_node basis (behaviour_of c.in_ok-made.made) c.in_ok-own.own.value c.in_ok-own.ensures.same
+    (c.in_ok-own.ensures.terms basis.data_.signature
+    (instance_over basis environment behaviour c.in_ok-made.made c.in_ok-made.ensures.terms
+    (first_terms basis.data_.signature (profiles_in behaviour) (map pair_profile environment) h.terms_of_signature)
+    (second_terms basis.data_.signature (profiles_in behaviour) (map pair_profile environment) h.terms_of_signature)))
+    (c.in_ok-own.ensures.closed_parts basis.data_.signature (specification_of basis.spec) closed) closed

@@ -13,7 +13,8 @@ pub returns-clause-same : goal.returns-clause-same
 returns-clause-same c = ap stands_for c.in_ok-made.ensures ∙ c.part-node.ensures.same ∙ ap behaviour_of c.in_ok-own.ensures
 
 pub returns-clause-terms : goal.returns-clause-terms
-returns-clause-terms c = λ signature h. subst (λ (node : Node). AreTermsOf signature (node_profiles node)) (sym c.in_ok-made.ensures)
+returns-clause-terms c = λ signature h.
+    subst (λ (node : Node). AreTermsOf signature (node_profiles node)) (sym c.in_ok-made.ensures)
     (c.part-node.ensures.terms signature (subst (AreTermsOf signature) (sym (ap profiles_in c.in_ok-own.ensures)) h))
 
 pub returns-clause-closed_parts : goal.returns-clause-closed_parts

@@ -32,10 +32,13 @@ returns-clause-kept g c =
     let basis = ground_of (g.D.Deciding.known_data c.args.decider.now) (g.D.Deciding.canon c.args.decider.now) c.args.making.now.spec.now in
     let lefts = c.items-lefts.ensures ∙ ap (λ (k : Kept). (listed_for k).items) c.deref.ensures in
     let rights = c.items-rights.ensures ∙ ap (λ (k : Kept). (listed_for k).items) c.deref-2.ensures in
-    let made_of = subst (λ (v : Vec Item Global). AreBeside basis.data_ basis.canon no_gates (listed_for c.args.first.now.value).items.items
-    v.items c.in_ok-items.items.items) rights (subst (λ (v : Vec Item Global). AreBeside basis.data_ basis.canon no_gates v.items
-    c.items-rights.result.now.items c.in_ok-items.items.items) lefts c.in_ok-items.ensures.beside) in
-    IfOk-weaker c.shared.result _ _ (λ made e. two_kept basis c.args.node.now.value _ c.in_ok-node.ensures (subst (IsExactOn basis
-    (stands_for c.args.node.now.value)) (sym made_of.same) (c.requires.form _ _ made_of.boths c.requires.first.1 c.requires.second.1
-    made_of.solved)) made_of.terms c.in_ok-one.one c.in_ok-other.other made.value e (subst (IsKept basis) (sym c.in_ok-one.ensures)
-    c.requires.first.0) (subst (IsKept basis) (sym c.in_ok-other.ensures) c.requires.second.0)) c.shared.ensures
+    let made_of = subst (λ (v : Vec Item Global). AreBeside basis.data_ basis.canon no_gates
+    (listed_for c.args.first.now.value).items.items v.items c.in_ok-items.items.items) rights
+    (subst (λ (v : Vec Item Global). AreBeside basis.data_ basis.canon no_gates v.items c.items-rights.result.now.items
+    c.in_ok-items.items.items) lefts c.in_ok-items.ensures.beside) in
+    IfOk-weaker c.shared.result _ _ (λ made e.
+    two_kept basis c.args.node.now.value _ c.in_ok-node.ensures
+    (subst (IsExactOn basis (stands_for c.args.node.now.value)) (sym made_of.same)
+    (c.requires.form _ _ made_of.boths c.requires.first.1 c.requires.second.1 made_of.solved)) made_of.terms
+    c.in_ok-one.one c.in_ok-other.other made.value e (subst (IsKept basis) (sym c.in_ok-one.ensures) c.requires.first.0)
+    (subst (IsKept basis) (sym c.in_ok-other.ensures) c.requires.second.0)) c.shared.ensures

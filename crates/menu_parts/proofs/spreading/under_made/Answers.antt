@@ -16,7 +16,9 @@ returns-in-None c =
 
 pub returns-in_ok-made-in-Some : goal.returns-in_ok-made-in-Some
 returns-in_ok-made-in-Some c =
-    IfOk-weaker c.side_made.result _ _ (λ made e basis part form h. e basis (stands_for c.args.node.now.value) (kept_as_for basis
-    c.args.node.now.value c.in_ok-made-in-Some.made.value (c.in_ok-made-in-Some.ensures basis part form (ended_kept basis (λ (entries : List
-    Entry). by_way c.args.way.now (relabel_menu c.args.pairs.items entries)) c.ending.result c.deref.result.now c.args.inner.value
-    c.deref.ensures part c.in-Some.kept c.in-Some.is c.ending.ensures.kept c.ending.ensures.menu h)))) c.side_made.ensures
+    IfOk-weaker c.side_made.result _ _ (λ made e basis part form h.
+    e basis (stands_for c.args.node.now.value)
+    (kept_as_for basis c.args.node.now.value c.in_ok-made-in-Some.made.value (c.in_ok-made-in-Some.ensures basis part form
+    (ended_kept basis (λ (entries : List Entry). by_way c.args.way.now (relabel_menu c.args.pairs.items entries)) c.ending.result
+    c.deref.result.now c.args.inner.value c.deref.ensures part c.in-Some.kept c.in-Some.is c.ending.ensures.kept c.ending.ensures.menu
+    h)))) c.side_made.ensures

@@ -15,7 +15,8 @@ returns-in-Side-clause-terms t c =
 
 pub returns-in-Under-clause-same : goal.returns-in-Under-clause-same
 returns-in-Under-clause-same t c =
-    IfOk-weaker c.push_items.result _ _ (λ u e. subst (ArePushed c.args.items.now.items c.push_items.new.items.items) (sym c.in-Under.is)
+    IfOk-weaker c.push_items.result _ _ (λ u e.
+    subst (ArePushed c.args.items.now.items c.push_items.new.items.items) (sym c.in-Under.is)
     (subst (ArePushed c.args.items.now.items c.push_items.new.items.items) c.deref.ensures e)) c.push_items.ensures.same
 
 pub returns-in-Under-clause-terms : goal.returns-in-Under-clause-terms

@@ -17,8 +17,9 @@ pub loop-left-init : goal.loop-left-init
 loop-left-init g c =
     let known = g.D.Deciding.known_data c.args.decider.now in
     let canon = g.D.Deciding.canon c.args.decider.now in
-    let whole = joins known (meet_of c.args.meet.now) (map plain_item c.deref-left-items.result.now) (map plain_item
-    c.args.rights.now.items) in
+    let whole = joins known (meet_of c.args.meet.now) (map plain_item c.deref-left-items.result.now)
+    (map plain_item c.args.rights.now.items)
+    in
     record {
       half = subst (λ (xs : List Item). IsHalfSolved canon [] xs whole whole) (sym c.new-made.ensures.items) (λ later rest. rest);
       terms = subst (Every (HasItemTerms known.signature)) (sym c.new-made.ensures.items) tt;
@@ -45,11 +46,12 @@ loop-left-preserved g c =
     let at = c.loop-left.left-index in
     record {
       half = lefts_more canon known (meet_of c.args.meet.now) lefts at c.left-item.result (map plain_item c.args.rights.now.items) []
-          c.loop-left.made.items c.push_joins.new.items.items (joins known (meet_of c.args.meet.now) (map plain_item lefts) (map plain_item
-          c.args.rights.now.items)) c.loop-left-test.true c.left-item.is (held_before (λ (d : Data) (f : Term → Term). SolvesMore f
-          c.loop-left.made.items c.push_joins.new.items.items (joins_of d (meet_of c.args.meet.now) (plain_item c.left-item.result) (map
-          plain_item c.args.rights.now.items))) c.loop-left.invariant.same_known c.in_ok-push_joins.ensures.solved)
-          c.loop-left.invariant.half;
+          c.loop-left.made.items c.push_joins.new.items.items
+          (joins known (meet_of c.args.meet.now) (map plain_item lefts) (map plain_item c.args.rights.now.items))
+          c.loop-left-test.true c.left-item.is
+          (held_before (λ (d : Data) (f : Term → Term). SolvesMore f c.loop-left.made.items c.push_joins.new.items.items
+          (joins_of d (meet_of c.args.meet.now) (plain_item c.left-item.result) (map plain_item c.args.rights.now.items)))
+          c.loop-left.invariant.same_known c.in_ok-push_joins.ensures.solved) c.loop-left.invariant.half;
       terms = held_before (λ (d : Data) (f : Term → Term). Every (HasItemTerms d.signature) c.loop-left.made.items
           → Every (HasItemTerms d.signature) c.push_joins.new.items.items) c.loop-left.invariant.same_known
           c.in_ok-push_joins.ensures.terms c.loop-left.invariant.terms;

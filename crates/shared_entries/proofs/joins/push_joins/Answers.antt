@@ -22,10 +22,12 @@ use Rattle.shared_entries.proofs.joins.push_joins.Goals as goal
 
 pub returns-then-not-meets-clause-solved : goal.returns-then-not-meets-clause-solved
 returns-then-not-meets-clause-solved g c =
-    no_more (g.D.Deciding.canon c.args.decider.now) c.args.items.now.items (joins_of (g.D.Deciding.known_data c.args.decider.now) (meet_of
-    c.args.meet.now) (plain_item c.args.left.now) (map plain_item c.args.rights.now.items)) (no_joins (g.D.Deciding.known_data
-    c.args.decider.now) (meet_of c.args.meet.now) (plain_item c.args.left.now) (map plain_item c.args.rights.now.items) (sym
-    (c.if-not-meets.ensures ∙ ap (λ (l : Label). meets_with (meet_of c.args.meet.now) (label_of l)) c.deref.ensures)))
+    no_more (g.D.Deciding.canon c.args.decider.now) c.args.items.now.items
+    (joins_of (g.D.Deciding.known_data c.args.decider.now) (meet_of c.args.meet.now) (plain_item c.args.left.now)
+    (map plain_item c.args.rights.now.items))
+    (no_joins (g.D.Deciding.known_data c.args.decider.now) (meet_of c.args.meet.now) (plain_item c.args.left.now)
+    (map plain_item c.args.rights.now.items) (sym (c.if-not-meets.ensures
+    ∙ ap (λ (l : Label). meets_with (meet_of c.args.meet.now) (label_of l)) c.deref.ensures)))
 
 pub loop-right-init : goal.loop-right-init
 loop-right-init g c = record {
@@ -56,14 +58,15 @@ loop-right-preserved g c =
     let at = c.loop-right.right-index in
     record {
       half = joins_more canon known (meet_of c.args.meet.now) (plain_item c.args.left.now) rights at c.right-item.result
-          c.args.items.now.items c.loop-right.items.items c.push_join.new.items.items (joins_of known (meet_of c.args.meet.now) (plain_item
-          c.args.left.now) (map plain_item rights)) (sym (c.if-not-meets.ensures ∙ ap (λ (l : Label). meets_with (meet_of c.args.meet.now)
-          (label_of l)) c.deref.ensures)) c.loop-right-test.true c.right-item.is (subst (λ (d : plain.Draft). SolvesMore canon
-          c.loop-right.items.items c.push_join.new.items.items (option_to_list (join_of_drafts known.signature d (as_draft (plain_item
-          c.right-item.result))))) c.in_ok-first.ensures.same (held_before (λ (d : Data) (f : Term → Term). SolvesMore f
-          c.loop-right.items.items c.push_join.new.items.items (option_to_list (join_of_drafts d.signature (plain_draft c.in_ok-first.first)
-          (as_draft (plain_item c.right-item.result))))) c.loop-right.invariant.same_known c.in_ok-push_join.ensures.solved))
-          c.loop-right.invariant.half;
+          c.args.items.now.items c.loop-right.items.items c.push_join.new.items.items
+          (joins_of known (meet_of c.args.meet.now) (plain_item c.args.left.now) (map plain_item rights))
+          (sym (c.if-not-meets.ensures ∙ ap (λ (l : Label). meets_with (meet_of c.args.meet.now) (label_of l)) c.deref.ensures))
+          c.loop-right-test.true c.right-item.is
+          (subst (λ (d : plain.Draft). SolvesMore canon c.loop-right.items.items c.push_join.new.items.items
+          (option_to_list (join_of_drafts known.signature d (as_draft (plain_item c.right-item.result))))) c.in_ok-first.ensures.same
+          (held_before (λ (d : Data) (f : Term → Term). SolvesMore f c.loop-right.items.items c.push_join.new.items.items
+          (option_to_list (join_of_drafts d.signature (plain_draft c.in_ok-first.first) (as_draft (plain_item c.right-item.result)))))
+          c.loop-right.invariant.same_known c.in_ok-push_join.ensures.solved)) c.loop-right.invariant.half;
       terms = λ h. held_before (λ (d : Data) (f : Term → Term). Every (HasItemTerms d.signature) c.loop-right.items.items
           → Every (HasItemTerms d.signature) c.push_join.new.items.items) c.loop-right.invariant.same_known
           c.in_ok-push_join.ensures.terms (c.loop-right.invariant.terms h);
@@ -77,7 +80,9 @@ returns-clause-solved g c =
     let known = g.D.Deciding.known_data c.args.decider.now in
     let canon = g.D.Deciding.canon c.args.decider.now in
     let rights = c.deref-right-items.result.now in
-    subst (λ (xs : List Item). SolvesMore canon c.args.items.now.items c.loop-right.items.items (joins_of known (meet_of c.args.meet.now)
-    (plain_item c.args.left.now) (map plain_item xs))) c.deref-right-items.ensures.value (joins_end canon known (meet_of c.args.meet.now)
-    (plain_item c.args.left.now) rights c.loop-right.right-index c.args.items.now.items c.loop-right.items.items (joins_of known (meet_of
-    c.args.meet.now) (plain_item c.args.left.now) (map plain_item rights)) c.loop-right-test.false c.loop-right.invariant.half)
+    subst (λ (xs : List Item). SolvesMore canon c.args.items.now.items c.loop-right.items.items
+    (joins_of known (meet_of c.args.meet.now) (plain_item c.args.left.now) (map plain_item xs))) c.deref-right-items.ensures.value
+    (joins_end canon known (meet_of c.args.meet.now) (plain_item c.args.left.now) rights c.loop-right.right-index
+    c.args.items.now.items c.loop-right.items.items
+    (joins_of known (meet_of c.args.meet.now) (plain_item c.args.left.now) (map plain_item rights)) c.loop-right-test.false
+    c.loop-right.invariant.half)

@@ -21,10 +21,11 @@ solve-requires g c =
 
 pub returns-in_ok-entry-in-Some-clause-solved : goal.returns-in_ok-entry-in-Some-clause-solved
 returns-in_ok-entry-in-Some-clause-solved g c =
-    IfOk-weaker c.push_entry.result _ _ (λ done e. subst (λ (o : Option Draft). SolvesMore (g.D.Deciding.canon c.args.decider.now)
-    c.args.items.now.items c.push_entry.new.items.items (option_to_list (option_map plain_draft o))) (sym c.in-Some.is) (one_more
-    (g.D.Deciding.canon c.args.decider.now) c.args.items.now.items c.push_entry.new.items.items (plain_draft c.in-Some.draft) (option_map
-    plain_entry c.in_ok-entry-in-Some.entry) e c.in_ok-entry-in-Some.ensures.solved)) c.push_entry.ensures.same
+    IfOk-weaker c.push_entry.result _ _ (λ done e.
+    subst (λ (o : Option Draft). SolvesMore (g.D.Deciding.canon c.args.decider.now) c.args.items.now.items c.push_entry.new.items.items
+    (option_to_list (option_map plain_draft o))) (sym c.in-Some.is)
+    (one_more (g.D.Deciding.canon c.args.decider.now) c.args.items.now.items c.push_entry.new.items.items (plain_draft c.in-Some.draft)
+    (option_map plain_entry c.in_ok-entry-in-Some.entry) e c.in_ok-entry-in-Some.ensures.solved)) c.push_entry.ensures.same
 
 pub returns-in_ok-entry-in-Some-clause-terms : goal.returns-in_ok-entry-in-Some-clause-terms
 returns-in_ok-entry-in-Some-clause-terms g c =

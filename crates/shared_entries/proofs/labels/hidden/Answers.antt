@@ -11,5 +11,6 @@ returns-clause-same c =
     ap label_of c.in_ok-made.ensures ∙ (c.hide_label-changed.ensures.same ∙ ap (hidden_label c.args.gates.now) c.in_ok-copy.ensures.same)
 
 pub returns-clause-terms : goal.returns-clause-terms
-returns-clause-terms c = λ signature h. subst (λ (l : Label). AreTermsOf signature (label_profiles l)) (sym c.in_ok-made.ensures)
+returns-clause-terms c = λ signature h.
+    subst (λ (l : Label). AreTermsOf signature (label_profiles l)) (sym c.in_ok-made.ensures)
     (c.hide_label-changed.ensures.over signature (subst (AreTermsOf signature) (sym c.in_ok-copy.ensures.profiles) h))

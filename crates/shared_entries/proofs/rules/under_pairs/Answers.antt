@@ -6,9 +6,10 @@ use Rattle.shared_entries.specs.Items.{AreItemTerms}
 use Rattle.shared_entries.proofs.rules.under_pairs.Goals as goal
 
 pub returns-clause-terms : goal.returns-clause-terms
-returns-clause-terms c = λ signature h. subst (AreItemTerms signature) (sym c.in_ok-made.ensures.terms) (record {
-  values = c.in_ok-label.ensures.terms signature (subst (λ (l : Label). AreTermsOf signature (label_profiles l)) (sym c.deref.ensures)
-      h.values);
-  leaves = h.leaves;
-  conditions = h.conditions;
-})
+returns-clause-terms c = λ signature h.
+    subst (AreItemTerms signature) (sym c.in_ok-made.ensures.terms) (record {
+      values = c.in_ok-label.ensures.terms signature (subst (λ (l : Label). AreTermsOf signature (label_profiles l)) (sym c.deref.ensures)
+          h.values);
+      leaves = h.leaves;
+      conditions = h.conditions;
+    })

@@ -25,23 +25,23 @@ brought-requires-clause-kept g c =
 pub returns-clause-exact : goal.returns-clause-exact
 returns-clause-exact g c =
     menu_exact (ground_of (g.D.Deciding.known_data c.args.decider.now) (g.D.Deciding.canon c.args.decider.now) c.args.spec.now)
-    c.in_ok-node.node.value c.in_ok-next.next.value c.in_ok-next.ensures.kept c.in_ok-menu.menu (entries_kept (ground_of
-    (g.D.Deciding.known_data c.args.decider.now) (g.D.Deciding.canon c.args.decider.now) c.args.spec.now) c.in_ok-node.node.value
-    c.in_ok-next.next.value c.deref.result.now c.in_ok-menu.menu c.deref.ensures c.in_ok-next.ensures.kept c.in_ok-menu.ensures) (state_of
-    c.args.state.now) (ap stands_for c.in_ok-node.ensures ∙ (c.in_ok-copy.ensures.same ∙ ap stands_for c.node.ensures))
+    c.in_ok-node.node.value c.in_ok-next.next.value c.in_ok-next.ensures.kept c.in_ok-menu.menu
+    (entries_kept (ground_of (g.D.Deciding.known_data c.args.decider.now) (g.D.Deciding.canon c.args.decider.now) c.args.spec.now)
+    c.in_ok-node.node.value c.in_ok-next.next.value c.deref.result.now c.in_ok-menu.menu c.deref.ensures c.in_ok-next.ensures.kept
+    c.in_ok-menu.ensures)
+    (state_of c.args.state.now)
+    (ap stands_for c.in_ok-node.ensures ∙ (c.in_ok-copy.ensures.same ∙ ap stands_for c.node.ensures))
 
 pub returns-clause-over : goal.returns-clause-over
 returns-clause-over g c =
     menu_over (ground_of (g.D.Deciding.known_data c.args.decider.now) (g.D.Deciding.canon c.args.decider.now) c.args.spec.now)
-    c.in_ok-node.node.value c.in_ok-next.next.value c.in_ok-next.ensures.kept c.in_ok-menu.menu (entries_kept (ground_of
-    (g.D.Deciding.known_data c.args.decider.now) (g.D.Deciding.canon c.args.decider.now) c.args.spec.now) c.in_ok-node.node.value
-    c.in_ok-next.next.value c.deref.result.now c.in_ok-menu.menu c.deref.ensures c.in_ok-next.ensures.kept c.in_ok-menu.ensures) (record {
-      signature = c.requires.signature;
-      is_canon = g.met.D.Deciding.is_canon c.args.decider.now;
-      over = c.requires.over;
-    }) (copied_node
-    (g.D.Deciding.known_data c.args.decider.now) (g.D.Deciding.canon c.args.decider.now) c.args.spec.now c.args.state.now c.node.result.now
-    c.in_ok-copy.copy c.in_ok-node.node.value c.node.ensures c.in_ok-copy.ensures.same c.in_ok-copy.ensures.terms
+    c.in_ok-node.node.value c.in_ok-next.next.value c.in_ok-next.ensures.kept c.in_ok-menu.menu
+    (entries_kept (ground_of (g.D.Deciding.known_data c.args.decider.now) (g.D.Deciding.canon c.args.decider.now) c.args.spec.now)
+    c.in_ok-node.node.value c.in_ok-next.next.value c.deref.result.now c.in_ok-menu.menu c.deref.ensures c.in_ok-next.ensures.kept
+    c.in_ok-menu.ensures)
+    (record { signature = c.requires.signature; is_canon = g.met.D.Deciding.is_canon c.args.decider.now; over = c.requires.over })
+    (copied_node (g.D.Deciding.known_data c.args.decider.now) (g.D.Deciding.canon c.args.decider.now) c.args.spec.now c.args.state.now
+    c.node.result.now c.in_ok-copy.copy c.in_ok-node.node.value c.node.ensures c.in_ok-copy.ensures.same c.in_ok-copy.ensures.terms
     c.in_ok-copy.ensures.closed c.in_ok-node.ensures c.requires.state c.requires.closed)
 
 pub returns-clause-suits_after : goal.returns-clause-suits_after
