@@ -222,9 +222,6 @@ module _ (first other : Acceptance) (now : ShelfState) (text : List ℕ) (answer
       onwards now now now (ReadsCertificate text) (λ ls. JudgesThen first other ls) lines answer
       (looked now (IsCertificate text) (IsNoCertificate text) refused_printed lines (short, is)) rest
 
-  pub text_wants : PartCame (ReadsThen first other text) now now
-  text_wants = look_wants now (IsCertificate text) (IsNoCertificate text) refused_printed (λ lines. JudgesThen first other lines)
-
 -- ---- The lines of the certificate
 
 pub lines_want : (first other : Acceptance) (now : ShelfState) (lines : List CertificateLine) → PartCame (JudgesThen first other lines) now now

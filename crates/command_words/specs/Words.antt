@@ -180,11 +180,6 @@ start_values_in (flattening spec order) = []
 start_values_in (bisimilarity c) = []
 start_values_in (induction i) = []
 
--- whether a line is that of a demonstration
-abbrev pub is_demonstration : Option CommandLine → Bool
-is_demonstration (Some (demonstration cells)) = true
-is_demonstration _ = false
-
 -- ---- What the code has
 
 -- what names of files and start values of the code ask for

@@ -12,14 +12,6 @@ use Rattle.sort_terms.specs.declared.terms.Term.TheVariants.{Var, Node}
 use Rattle.draft_solving.specs.Changing.{found_of}
 use Rattle.draft_solving.specs.Naming.{name_for, smaller, TurnsRound, operation_put, first_replaced, second_replaced}
 
--- ---- Each number named by itself.
-own_at_end : (made : List ℕ) (x n d : ℕ) → (n ≡ length made → x ≡ d) → unwrap_or (slice_get made n) d ≡ d
-    → unwrap_or (slice_get (made ++ x ∷ []) n) d ≡ d
-own_at_end [] x zero d last h = last refl
-own_at_end [] x (suc n) d last h = refl
-own_at_end (y ∷ made) x zero d last h = h
-own_at_end (y ∷ made) x (suc n) d last h = own_at_end made x n d (λ e. last (ap suc e)) h
-
 -- The numbers below the count, each named by itself.
 pub record AreOwnUpTo (count : ℕ) (names : List ℕ) : Type 0 where
   pub size : length names ≡ count

@@ -43,18 +43,6 @@ changed_other f zero (suc k) (test ∷ tests) apart = refl
 changed_other f (suc place) zero (test ∷ tests) apart = refl
 changed_other f (suc place) (suc k) (test ∷ tests) apart = changed_other f place k tests (λ e. apart (ap suc e))
 
-pub changed_here : (f : Term → Term) (place : ℕ) (tests : List Test) (test : Test) → slice_get tests place ≡ Some test
-    → slice_get (changed_at f place tests) place ≡ Some (test_in f test)
-changed_here f place [] test at = absurd (cc at)
-changed_here f zero (x ∷ tests) test at = ap (λ (t : Test). Some (test_in f t)) (some_value at)
-changed_here f (suc place) (x ∷ tests) test at = changed_here f place tests test at
-
--- past the end nothing is changed
-pub past_changed : (f : Term → Term) (place : ℕ) (tests : List Test) → length tests ≤ place → changed_at f place tests ≡ tests
-past_changed f place [] past = refl
-past_changed f zero (test ∷ tests) past = absurd (omega arith)
-past_changed f (suc place) (test ∷ tests) past = ap (λ (ts : List Test). test ∷ ts) (past_changed f place tests (omega arith))
-
 -- What is said of each condition but one, and of that one once it is changed, is said of all.
 pub after_change : (P : ℕ → Test → Type 0) (f : Term → Term) (place : ℕ) (tests : List Test)
     → ((k : ℕ) (test : Test) → (place ≡ k → ⊥) → slice_get tests k ≡ Some test → P k test)

@@ -1,4 +1,4 @@
-//! Worked cases. Each function carries what the definitions say of some lines as its contract and
+//! Worked cases. The function carries what the definitions say of them as its contract and
 //! does nothing.
 
 ghost use Rattle.history_lines.specs.AnswerCases.{
@@ -7,17 +7,9 @@ ghost use Rattle.history_lines.specs.AnswerCases.{
   StepsComeTo,
 };
 
-/// Refusals have their lines.
-pub fn refusals_have_lines()
-    ensures { RefusalsHaveLines }
-{}
-
-/// What lines of steps come to.
-pub fn steps_come_to()
-    ensures { StepsComeTo }
-{}
-
-/// What other lines come to.
-pub fn commands_come_to()
-    ensures { CommandsComeTo }
+/// What some lines come to, and the lines of refusals.
+pub fn worked_cases_hold()
+    ensures refusals_have_lines { RefusalsHaveLines }
+    ensures steps_come_to { StepsComeTo }
+    ensures commands_come_to { CommandsComeTo }
 {}

@@ -54,8 +54,3 @@ read_on text (Some read) (token ∷ tokens) = read_on text (read_token text read
 
 abbrev pub read_tokens : List ℕ → VariablesRead → List Token → Option VariablesRead
 read_tokens text read tokens = read_on text (Some read) tokens
-
--- the variables that were read, if the end may come
-abbrev pub variables_if_ended : Awaited → VariablesRead → Option (List WrittenVariable)
-variables_if_ended comma_or_end read = Some read.variables
-variables_if_ended awaited read = None

@@ -83,14 +83,6 @@ hypothesis_source setting proving point k h known at = record {
     fine : IsFineHypothesis (setting_signature setting) proving.free point.sorts.items point.gone.items (statement_of h)
     fine = hypothesis_known (setting_signature setting) proving.free point k h known at
 
--- past the end there is none
-pub no_lemma : (proving : Proving) (point : Case) (k : ℕ) (statement : PlainStatement) → slice_get proving.earlier.now k ≡ None
-    → ¬ IsOfSource (proving_in proving) (case_in point) (use_source_of (Lemma k)) statement
-no_lemma proving point k statement past there =
-    none_and_some (slice_get (statements_of (lemmas_in proving.earlier.now)) k) statement
-    (past_map (λ (one : PlainLemma). one.statement) (lemmas_in proving.earlier.now) k (past_map lemma_in proving.earlier.now k past))
-    there
-
 pub no_hypothesis : (proving : Proving) (point : Case) (k : ℕ) (statement : PlainStatement) → slice_get point.hypotheses.items k ≡ None
     → ¬ IsOfSource (proving_in proving) (case_in point) (use_source_of (Hypothesis k)) statement
 no_hypothesis proving point k statement past there =

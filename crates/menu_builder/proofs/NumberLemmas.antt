@@ -28,11 +28,6 @@ module _ {A : Type 0} (bound : List A → ℕ) where
       step n (drop (suc i) items) le (subst (λ (j : ℕ). bound (drop j items) ≤ n) (add-one i) less) in
       before n both.0 (subst (λ (xs : List A). bound xs ≤ n) (sym here) both.1)
 
-  pub covers_end : (items : List A) (i above : ℕ) → length items ≤ i → bound [] ≡ 0 → Covers items i above → bound items ≤ above
-  covers_end items i above le none before =
-      let empty : bound (drop i items) ≡ 0 = ap bound (drop_of_length-le items le) ∙ none in
-      before above (omega arith) (omega arith)
-
 -- one more number
 pub step_past : (above number more n rest : ℕ) → above ≤ more → number < more → more ≤ n → rest ≤ n
     → (above ≤ n) × (max (suc number) rest ≤ n)

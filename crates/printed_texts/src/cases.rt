@@ -1,5 +1,5 @@
-//! Worked cases of the texts. Each function carries what the definitions say of some cases as its
-//! contract and does nothing.
+//! Worked cases of the texts. The function carries what the definitions say of them as its contract and
+//! does nothing.
 
 ghost use Rattle.printed_texts.specs.TextCases.{
   LabelsHaveTexts,
@@ -12,42 +12,14 @@ ghost use Rattle.printed_texts.specs.TextCases.{
   WordFormsHaveTexts,
 };
 
-/// Operands that are infix stand in brackets, arguments do not.
-pub fn operands_stand_in_brackets()
-    ensures { OperandsStandInBrackets }
-{}
-
-/// A blank keeps a bracket and a star apart.
-pub fn stars_stand_apart()
-    ensures { StarsStandApart }
-{}
-
-/// Operations that have a twin are told apart by their sort.
-pub fn twins_have_their_sorts()
-    ensures { TwinsHaveTheirSorts }
-{}
-
-/// Labels of each kind.
-pub fn labels_have_texts()
-    ensures { LabelsHaveTexts }
-{}
-
-/// Menus with variables and with conditions, and the head of a report.
-pub fn menus_have_texts()
-    ensures { MenusHaveTexts }
-{}
-
-/// Actions, guards and endings.
-pub fn prefixes_have_texts()
-    ensures { PrefixesHaveTexts }
-{}
-
-/// Binary forms with each sign.
-pub fn signs_stand_between_parts()
-    ensures { SignsStandBetweenParts }
-{}
-
-/// Word forms, calls and relabellings.
-pub fn word_forms_have_texts()
-    ensures { WordFormsHaveTexts }
+/// The texts of terms, labels, menus and behaviours in some cases.
+pub fn worked_cases_hold()
+    ensures operands_stand_in_brackets { OperandsStandInBrackets }
+    ensures stars_stand_apart { StarsStandApart }
+    ensures twins_have_their_sorts { TwinsHaveTheirSorts }
+    ensures labels_have_texts { LabelsHaveTexts }
+    ensures menus_have_texts { MenusHaveTexts }
+    ensures prefixes_have_texts { PrefixesHaveTexts }
+    ensures signs_stand_between_parts { SignsStandBetweenParts }
+    ensures word_forms_have_texts { WordFormsHaveTexts }
 {}

@@ -7,13 +7,11 @@ pub mod OfferCases
 pub mod FormCases
 pub mod OrderCases
 pub mod MenuCases
-pub mod TableCases
 pub mod ValueCases
 pub mod SolvingCases
 pub mod ComparisonCases
 pub mod WellFormedCases
 pub mod FaultCases
-pub mod DraftCases
 pub mod BisimulationCases
 pub mod CertificateCases
 pub mod IdentityCases

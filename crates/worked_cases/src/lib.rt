@@ -5,10 +5,8 @@
 pub mod bisimulation_cases;
 pub mod cases;
 pub mod comparison_cases;
-pub mod draft_cases;
 pub mod fault_cases;
 pub mod pair_cases;
 pub mod solving_cases;
-pub mod table_cases;
 pub mod value_cases;
 pub mod well_formed_cases;

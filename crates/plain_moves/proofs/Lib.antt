@@ -1,5 +1,0 @@
-pub mod EachLemmas
-pub mod FormLemmas
-pub mod ListsLemmas
-pub mod NoValues
-pub mod TakenLemmas

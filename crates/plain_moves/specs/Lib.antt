@@ -1,4 +1,0 @@
-pub mod Listed
-pub mod MoveView
-pub mod Taken
-pub mod View
