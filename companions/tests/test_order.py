@@ -6,6 +6,8 @@ import re
 import subprocess
 import sys
 import unittest
+from dataclasses import replace
+from itertools import combinations
 
 import pytest
 
@@ -20,6 +22,7 @@ from lotos_companion.ordering.demands import Above, Compared, Comparisons, Side
 from lotos_companion.ordering.finding import find_order
 from lotos_companion.ordering.order_file import Listing, PathOrder
 from lotos_companion.ordering.report import fault_lines
+from lotos_companion.ordering.smallest import Conflict, smallest_conflict
 from lotos_companion.ordering.solving import Search
 from lotos_companion.program import Words
 
@@ -28,6 +31,8 @@ WORDS = {"car_park": ["with", "Succ(0)", "true"], "sliding_window": ["with", "Su
 # Equations that cannot all be turned: what stands in the type, and what is said of it.
 REFUSED = (
     ("opns f, g : S -> S eqns forall x : S ofsort S f(s(x)) = g(s(x)); g(x) = f(x);", ("together", "f above g", "g above f")),
+    ("opns f, g, h, p, q : S -> S eqns forall x : S ofsort S p(x) = q(x); f(x) = g(x); g(x) = h(x); h(x) = f(x); q(x) = p(x);",
+     ("no order turns these 2 together, and no smaller set of equations conflicts:", "p above q", "q above p")),
     ("opns p, q : S, S -> S eqns forall x, y : S ofsort S p(x, s(y)) = p(s(x), y); p(s(x), y) = q(p(x, s(y)), x); "
      "q(x, y) = p(x, s(y));", ("together", "wants")),
     ("opns p : S, S -> S eqns forall x, y : S ofsort S p(x, y) = p(y, x);", ("no order turns p(x, y) = p(y, x)", "only swaps")),
@@ -76,6 +81,31 @@ class Demands(unittest.TestCase):
         self.assertIsNone(Search(7).solve(above))
         self.assertIsNotNone(Search(7).solve(above[:4]))
 
+    def test_of_two_circles_the_smaller_one(self):
+        """Both ways to leave out parts one after another end with the circle of three."""
+        above = [tuple([frozenset((Above(f, g),))]) for f, g in ((0, 1), (2, 3), (3, 4), (4, 2), (1, 0))]
+        search = Search(5)
+        self.assertEqual(([1, 2, 3], [1, 2, 3]), (search.conflict(above), search.conflict(above, True)))
+        self.assertEqual(Conflict([0, 4], True), smallest_conflict(search, above))
+        self.assertEqual(Conflict([1, 2, 3], False), smallest_conflict(search, above, 0))
+
+    def test_no_set_of_fewer_parts_conflicts(self):
+        chance, seen = random.Random(4), set()
+        for _ in range(150):
+            count = chance.randint(3, 6)
+            parts = [tuple({frozenset(Above(*chance.sample(range(count), 2)) for _ in range(chance.randint(1, 2)))
+                            for _ in range(chance.randint(1, 2))}) for _ in range(chance.randint(4, 9))]
+            search = Search(count)
+            if search.solve(parts) is None:
+                found = smallest_conflict(search, parts)
+                self.assertTrue(found.is_smallest)
+                self.assertIsNone(search.solve([parts[it] for it in found.parts]))
+                for fewer in combinations(parts, len(found.parts) - 1):
+                    self.assertIsNotNone(search.solve(fewer))
+                irreducible = min(len(search.conflict(parts, it)) for it in (False, True))
+                seen.add(irreducible > len(found.parts))
+        self.assertEqual({False, True}, seen)
+
     def test_a_wrong_choice_is_taken_back(self):
         """Each way that is nearest to the declarations leads into a circle, so that another one is wanted."""
         either = (frozenset((Above(2, 1),)), frozenset((Above(0, 1),)))
@@ -100,6 +130,22 @@ class Orders(FolderTest):
             done = subprocess.run([PROGRAM, "check", path, "found.order"], stdout=subprocess.PIPE, check=False)
             self.assertRegex(done.stdout.decode(), r"^accepted ")
         self.assertEqual("cheap;\n", self.order(os.path.join(INPUTS, "drinks.lotos"))[1])
+
+    def test_an_equation_that_no_order_turns_is_told_with_what_to_do(self):
+        """The text of lists, with a division that calls itself by a difference; with an argument that counts down it is turned."""
+        text = read(os.path.join(INPUTS, "lists.lotos")).replace("mod : Nat", "mod, div : Nat").replace(
+            "      ifn(true", "      div(x, y) = ifn(x lt y, 0, Succ(div(x - y, y)));\n      ifn(true")
+        self.write("division.lotos", text)
+        status, found, said = self.order("division.lotos", "-o", "division.order")
+        self.assertEqual((1, "", False), (status, found, os.path.exists("division.order")))
+        line = text[:text.index("div(x, y)")].count("\n") + 1
+        self.assertIn(f"no order turns div(x, y) = ifn(x lt y, 0, Succ(div(x - y, y))) at division.lotos:{line}:7 from left to right:\n"
+                      "  div calls itself by div(x - y, y), where the first argument that changes is no part of what it was: let a new "
+                      "argument count down (docs/REFUSALS.md, 602)\n", said)
+        self.write("division.lotos", text.replace("div : Nat, Nat -> Nat", "div : Nat, Nat -> Nat d : Nat, Nat, Nat -> Nat").replace(
+            "div(x, y) = ifn(x lt y, 0, Succ(div(x - y, y)));",
+            "div(x, y) = d(x, x, y); d(0, x, y) = 0; d(Succ(n), x, y) = ifn(x lt y, 0, Succ(d(n, x - y, y)));"))
+        self.assertEqual(0, self.order("division.lotos", "-o", "division.order")[0])
 
     def test_only_what_has_to_be_is_listed(self):
         for spec, wanted in (("countdown.lotos", "_-_;\n"), ("shop.lotos", "(* No operation has to be listed. *)\n")):
@@ -130,16 +176,20 @@ class Orders(FolderTest):
                 said = "\n".join(fault_lines(found))
                 for it in wanted:
                     self.assertIn(it, said)
+            found = find_order(desk, Sources(Words(("t",)), {"t": text_with(REFUSED[0][0]).encode()}))
         self.write("t.lotos", text_with(REFUSED[0][0]))
         status, output, said = self.order("t.lotos", "-o", "t.order")
         self.assertEqual((1, "", False), (status, output, os.path.exists("t.order")))
-        self.assertIn("no order turns these together", said)
+        self.assertIn("no order turns these 2 together, and no smaller set of equations conflicts:\n", said)
+        said = "\n".join(fault_lines(replace(found, is_smallest=False)))
+        self.assertRegex(said, "the set is irreducible, and was not shown smallest in [0-9]+ seconds:")
 
     def test_what_is_printed_as_json(self):
         self.write("t.lotos", text_with(REFUSED[0][0]))
         status, found, _ = self.order("--json", "t.lotos")
         result = json.loads(found)
-        self.assertEqual((1, False, 2, []), (status, result["accepted"], len(result["conflict"]), result["unturnable"]))
+        self.assertEqual((1, False, 2, True, []), (status, result["accepted"], len(result["conflict"]), result["conflict_is_smallest"],
+                                                   result["unturnable"]))
         status, found, _ = self.order("--json", "countdown.lotos")
         self.assertEqual((0, "_-_;\n"), (status, json.loads(found)["order"]))
 

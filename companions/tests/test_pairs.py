@@ -169,7 +169,9 @@ replayed in both:
         self.assertIn("--into FOLDER", said)
         status, output, said = self.run_companion("lotos-pairs", "open.lotos", "open.lotos", "--into", "kept")
         self.assertEqual(status, 0, said)
-        self.assertRegex(said, r"^lotos bisim kept/left_open.lotos kept/right_open.lotos: bisimilar \d+ pairs\n$")
+        self.assertRegex(said, r"^lotos bisim kept/left_open.lotos kept/right_open.lotos: bisimilar \d+ pairs\n"
+                               r"with all values of Bool written out in both: false, true\n$")
+        self.assertEqual({"Bool": ["false", "true"]}, self.pairs("open.lotos", "open.lotos", "--into", "kept", status=0)[1]["values"])
         self.assertIn("all values of these sorts written out", read("kept/left_open.lotos"))
         self.assertIn("Bool: false, true", read("kept/left_open.lotos"))
         self.assertEqual(read("kept/found.pairs"), output)

@@ -58,13 +58,47 @@ SHOWN = (
 
 # Of examples of docs/REFUSALS.md, by their numbers: a change that is shown, and accepted.
 MENDED = {104: "[0 lt Succ(0)] -> g for g [0 lt Succ(0)]", 202: "NaturalNumber for NaturalNumbers at 3:14",
-          205: "NaturalNumber mentioned by the type Pairs", 207: "c for d at 5:18", 209: "the pair 0 for none",
+          106: "the mention of T65 left out", 201: "Boolean2 for Boolean at s.lotos:3:6, where it is declared",
+          204: "S at s.lotos:4:17 left out, and A mentioned by the type B", 205: "NaturalNumber mentioned by the type Pairs",
+          206: "size at s.lotos:4:14 left out", 207: "c for d at 5:18", 208: "formalsorts E in the type A", 209: "the pair 0 for none",
           210: "max(x, y) = if(x le y, y, x), with if : Bool, Nat, Nat -> Nat", 211: "Succ(0) for 1",
           212: "x lt (x + Succ(0)) for x lt x + Succ(0)", 213: "(none of Coin) for none",
           301: "the gate h handed on to P, in its heading and its calls", 302: "P for Q at 6:11, where it is declared",
-          303: "y for x at 4:11", 304: "the gate h added to the call of P", 402: "i; before P", 501: "_gt_ for gt",
+          303: "y for x at 4:11", 304: "the gate h added to the call of P",
+          305: "0 added to the values of P", 306: "c = ten for c", 402: "i; before P", 501: "_gt_ for gt",
           502: "_gt_ : Nat, Nat -> Bool; left out", 503: "right for rigth at s.order:1:6",
-          601: "the order file s.order, as lotos-order writes it", 602: "the order file s.order, as lotos-order writes it"}
+          601: "the order file s.order, as lotos-order writes it", 602: "the order file s.order, as lotos-order writes it", 701: "0 left out"}
+# What is told of the example of a limit.
+TOLD = {103: ["it has 1,150,058 bytes, 101,482 more than the limit", "25,000 types of it have 700,000 bytes, the longest:",
+              "  T at s.lotos:2:8 has 28 bytes"],
+        105: ["it stands in the specification S at s.lotos:1:15", "what it stands in opens, by the signs before it: 500 times ;"],
+        106: ["s.lotos mentions 65 libraries; those that they mention count too",
+              "of these no other text uses a name: T65, T64, T63, T62, T61, T60, T59, T58, T57, T56, T55, T54 and 53 more"],
+        201: ["Boolean is declared at library Boolean:1:6 too"], 204: ["S is declared at s.lotos:3:17 and at s.lotos:4:17"],
+        206: ["size is declared at s.lotos:4:8 and at s.lotos:4:14"]}
+# What comes together twice, and numbers of values: the type or the behaviour, and a change that is accepted.
+TWICE = (
+    ("type Nats is NaturalNumber opns _+_ : Nat, Nat -> Nat endtype", "+ at s.lotos:4:34 left out"),
+    ("type A is sorts S, T opns c : -> S endtype type B is sorts U, S opns d : -> S endtype",
+     "S at s.lotos:4:63 left out, and A mentioned by the type B"),
+    ("type A is sorts S opns c : -> S endtype type A is sorts T opns d : -> T endtype type B is A opns e : -> T endtype",
+     "A2 for A at s.lotos:4:46, where it is declared and used (1)"),
+    ("type A is sorts S endtype type A is sorts S endtype", "this type A left out"),
+    ("type NaturalNumber is sorts Nat opns 0 : -> Nat endtype", "the mention of the library NaturalNumber left out"),
+    ("type A is sorts S opns c, d : -> S endtype type B is A opns d : -> S e : -> S endtype", "d at s.lotos:4:61 left out"),
+    ("type A is sorts E, F opns c : -> F endtype type B is A actualizedby NaturalNumber using sortnames Nat for E endtype",
+     "formalsorts E sorts F in the type A"),
+    ("type A is sorts E opns c : -> E endtype type B is A actualizedby Boolean using sortnames G for E endtype",
+     "renamedby for actualizedby Boolean using"),
+)
+COUNTED = (
+    ("P[g](0, true) where process P[g](n : Nat) : noexit := g !n; stop endproc", ["true left out"]),
+    ("P[g](true, 0) where process P[g](n : Nat) : noexit := g !n; stop endproc", ["true left out"]),
+    ("P[g](0) where process P[g] : noexit := g; stop endproc", ["0 left out"]),
+    ("P(0) where process P : noexit := stop endproc", ["0 left out"]),
+    ("g ?x : Nat; P[g](true) where process P[g](n : Nat, b : Bool) : noexit := g !n; stop endproc", ["x added as value 1 of P"]),
+    ("g ?x : Nat; P[g] where process P[g](n : Nat, b : Bool) : noexit := g !n; stop endproc", ["x, false added to the values of P"]),
+)
 
 
 @unittest.skipUnless(has_grammar(), "suggestions, since there is no python3-lark")
@@ -95,8 +129,47 @@ class Suggestions(FolderTest):
                 report = check(PROGRAM, Words.read(words), files)
                 self.assertTrue(report.is_whole)
                 seen.setdefault(number, [it.says for it in report.suggestions if it.outcome.is_accepted])
+                self.assertEqual([], [it for it in TOLD.get(number, ()) if it not in report.evidence])
         for number, wanted in MENDED.items():
             self.assertTrue(any(it.startswith(wanted) for it in seen[number]), (number, seen[number]))
+
+    @pytest.mark.slow
+    def test_too_many_constants(self):
+        number, words, files = next(it for it in refused_examples() if it[0] in LONG)
+        report = check(PROGRAM, Words.read(words), files)
+        self.assertIn("the type T at s.lotos:3:6 declares 1 sort, 65,536 operations and 0 equations itself", report.evidence)
+        self.assertEqual(["c : Nat -> A for the list of 65,536 constants"],
+                         [it.says for it in report.suggestions if it.outcome.is_accepted])
+
+    def test_what_is_declared_twice_and_what_is_filled(self):
+        for types, wanted in TWICE:
+            report = check(PROGRAM, Words(("s.lotos",)), {"s.lotos": f"{HEAD}  \n{types}\nbehaviour stop endspec\n".encode()})
+            self.assertIn(wanted, [it.says for it in report.suggestions if it.outcome.is_accepted], types)
+
+    def test_values_that_are_too_few_or_too_many(self):
+        for behaviour, wanted in COUNTED:
+            report = check(PROGRAM, Words(("s.lotos",)), {"s.lotos": f"{HEAD}behaviour\n{behaviour}\nendspec\n".encode()})
+            self.assertEqual(305, report.outcome.refusal.number)
+            self.assertEqual(wanted, [it.says for it in report.suggestions if it.outcome.is_accepted][:len(wanted)], behaviour)
+        for words, wanted in ((["with"], "0 true added behind with"), ([], "0 true added behind with"),
+                              (["with", "Succ(0)"], "true added behind with"), (["with", "0", "true", "0"], "0 left out"),
+                              (["with", "Succ(", "0)", "true"], "'Succ( 0)' true behind with"),
+                              (["with", "0", "+", "Succ(0)", "true"], "'0 + Succ(0)' true behind with")):
+            report = check(PROGRAM, Words.read(["car_park.lotos", *words]))
+            self.assertEqual(104 if "0)" in words else 701, report.outcome.refusal.number)
+            self.assertIn(wanted, [it.says for it in report.suggestions if it.outcome.is_accepted], words)
+        self.write("bools.lotos", "specification S [g] : noexit type B is sorts Bool, C opns true, no : -> Bool a : -> C f : C -> Bool endtype "
+                                  "behaviour g ?x : C [x]; stop endspec")
+        self.assertIn("x = a for x (accepted with it)", self.help("", "bools.lotos"))
+
+    def test_where_a_deep_behaviour_stands(self):
+        head = "specification S [g] : noexit behaviour P[g] where process P[g] : noexit :=\n"
+        report = self.help(f"{head}g; ({'g; ' * 200}stop [] {'g; ' * 501}stop) endproc endspec")
+        self.assertIn("it stands in the process P at s.lotos:1:59\n", report)
+        self.assertIn("by the signs before it: 499 times ;, 1 times []\n", report)
+        report = self.help(f"{HEAD}behaviour g !({'Succ(' * 501}0{')' * 501} + 0); stop endspec")
+        self.assertIn("it stands in the specification S at s.lotos:1:15\n", report)
+        self.assertIn("by the signs before it: 499 times (\n", report)
 
     def test_terms_of_types_and_words_behind_with(self):
         text = MAXIMUM.format("max(0, y) = y; max(Succ(x), y) = max(y lt x, z);")

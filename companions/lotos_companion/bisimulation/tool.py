@@ -57,6 +57,7 @@ class Outcome:
     accepted: Optional[str] = None
     pairs: List[str] = field(default_factory=list)
     files: Tuple[str, ...] = ()
+    values: Dict[str, Tuple[str, ...]] = field(default_factory=dict)
     holds_of: str = ""
     not_of: str = ""
     formula: Optional[Formula] = None
@@ -68,7 +69,8 @@ class Outcome:
     def data(self) -> Dict[str, Any]:
         """It for scripts."""
         if self.formula is None:
-            return {"bisim": self.accepted, "pairs": self.pairs, "files": list(self.files)}
+            return {"bisim": self.accepted, "pairs": self.pairs, "files": list(self.files),
+                    "values": {sort: list(values) for sort, values in self.values.items()}}
         return {"holds_of": self.holds_of, "not_of": self.not_of, "formula": self.formula.text, "depth": self.formula.depth,
                 "tree": self.formula.data, "steps": self.steps, "sequence": self.sequence}
 
@@ -108,6 +110,8 @@ def _show(outcome: Outcome, options: Namespace) -> int:
     if outcome.formula:
         return ANSWER_IS_NO
     complain(f"lotos bisim {' '.join(outcome.files)}: {outcome.accepted}")
+    for sort, values in outcome.values.items():
+        complain(f"with all values of {sort} written out in both: {', '.join(values) or 'it has none'}")
     return 0
 
 
@@ -117,6 +121,7 @@ class Search:
     def __init__(self, program: str, options: Namespace):
         self._program, self._options = program, options
         self._files = tuple(options.words)
+        self._values: Dict[str, Tuple[str, ...]] = {}
 
     def run(self) -> Outcome:
         """The outcome. `NotFound` where there is none within the bounds."""
@@ -172,7 +177,7 @@ class Search:
             said = self._checked(left.file, right.file, found.lines())
         if not said.startswith("bisimilar "):
             raise NotFound(f"a certificate was made, and lotos bisim answered: {said}")
-        return Outcome(said, found.lines(), (left.file, right.file))
+        return Outcome(said, found.lines(), (left.file, right.file), self._values)
 
     def _expanded(self, spec: str, name: str, wanted: Sequence[str]) -> str:
         """The file of a specification with the values of these sorts written out."""
@@ -191,6 +196,7 @@ class Search:
             expansion = self._with_finite(Words((spec,)), expand)
         except (NoGrammar, NoTree, TooLong) as fault:
             raise NotFound(str(fault) or f"{spec} with all values written out is too long") from None
+        self._values.update(expansion.sorts)
         os.makedirs(folder, exist_ok=True)
         path = os.path.join(folder, f"{name}_{os.path.basename(spec)}")
         with open(path, "w", encoding="utf-8", errors="surrogateescape", newline="\n") as file:

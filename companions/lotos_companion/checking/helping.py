@@ -7,8 +7,11 @@ from itertools import chain
 from typing import Callable, Dict, Iterable, List, Optional, Tuple
 
 from ..language.reading import has_grammar
+from .counts import NO_BOOL, START_VALUES, SYNTAX, VALUE_COUNT, Counts
 from .covering import Covering, covering
 from .desk import Desk
+from .doubles import DOUBLE_OPERATION, DOUBLE_SORT, DOUBLE_TYPE, Doubles
+from .limits import LIBRARIES, TOO_DEEP, TOO_LARGE, TOO_LONG, LimitHelp
 from .misspelling import Misspellings, unread_candidates
 from .orders import order_help
 from .premisses import NoTest, Premisses
@@ -23,8 +26,10 @@ DEEP = 20_000
 MOST_TRIES = 16
 MOST_QUESTIONS = 40
 PREMISED, UNORIENTABLE, UNJOINED = 210, 601, 602
-# Limits, which no word or sign mends; and what is less often misspelled than something else.
-LIMITS = (103, 105, 106, 214)
+DOUBLES = (DOUBLE_TYPE, DOUBLE_SORT, DOUBLE_OPERATION)
+COUNTED = (SYNTAX, VALUE_COUNT, NO_BOOL, START_VALUES)
+# Limits; and what is less often misspelled than something else.
+LIMITS = (TOO_LONG, TOO_DEEP, LIBRARIES, TOO_LARGE)
 REPAIRED_FIRST = (304, 306, 401, 402, 501, 502)
 
 # What stands at the place, and the changes that come first.
@@ -36,18 +41,22 @@ def with_help(desk: Desk, report: Report) -> Report:
     sys.setrecursionlimit(max(sys.getrecursionlimit(), DEEP))
     refusal = report.outcome.refusal
     desk.seconds = max(SECONDS, 2 * desk.last)
+    if refusal and refusal.number in LIMITS and report.span:
+        limit = LimitHelp(report)
+        lines, candidates = limit.lines(), list(limit.candidates())
+        found = Trials(desk, report.sources, report.outcome, MOST_TRIES).found(candidates)
+        return replace(report, evidence=tuple(lines), suggestions=tuple(found), is_whole=True, asked=desk.asked)
     trials = Trials(desk, report.sources, report.outcome, MOST_TRIES)
-    if refusal and refusal.number in LIMITS:
-        return replace(report, is_whole=True)
     if refusal is None or report.span is None:
-        candidates = unread_candidates(report.sources, report.outcome.unread) if report.outcome.unread else iter(())
-        return replace(report, suggestions=tuple(trials.found(candidates)), is_whole=True, asked=desk.asked)
+        unread = unread_candidates(report.sources, report.outcome.unread) if report.outcome.unread else iter(())
+        return replace(report, suggestions=tuple(trials.found(unread)), is_whole=True, asked=desk.asked)
     trees = read_trees(report.sources)
     misspellings, repairs = Misspellings(report, trees), Repairs(report, trees)
     makers: Dict[int, Callable[[], Help]] = {
         PREMISED: lambda: _premisses(desk, report, trees), UNORIENTABLE: lambda: order_help(desk, report),
         UNJOINED: lambda: order_help(desk, report), NO_READING: lambda: _readings(desk, report, trees),
-        TWO_READINGS: lambda: _readings(desk, report, trees)}
+        TWO_READINGS: lambda: _readings(desk, report, trees), **{it: lambda: _doubles(report, trees) for it in DOUBLES},
+        **{it: lambda: ([], Counts(report, trees).candidates()) for it in COUNTED}}
     maker = makers.get(refusal.number)
     evidence, first = maker() if maker else ([], ())
     near = misspellings.near()
@@ -67,10 +76,16 @@ def _readings(desk: Desk, report: Report, trees: Trees) -> Help:
         return [], ()
     try:
         if report.outcome.refusal.number == NO_READING:
-            return list(readings.lines()), readings.grouped()
+            return list(readings.lines()), chain(readings.grouped(), Counts(report, trees).candidates())
         return list(profiles(trees, readings.name)), list(readings.marked())
     except NotAsked:
         return [], readings.grouped()
+
+
+def _doubles(report: Report, trees: Trees) -> Help:
+    """For what is declared twice."""
+    doubles = Doubles(report, trees)
+    return doubles.lines(), doubles.candidates()
 
 
 def _premisses(desk: Desk, report: Report, trees: Trees) -> Help:

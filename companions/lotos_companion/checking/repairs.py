@@ -2,7 +2,7 @@
 from __future__ import annotations
 
 import re
-from typing import Callable, Dict, Iterator, List, Optional, Tuple
+from typing import Callable, Dict, Iterator, List, Optional, Set, Tuple
 
 from ..language import tree
 from ..language.reading import NoGrammar, fitting
@@ -15,6 +15,7 @@ from .outcome import Refusal
 from .places import tokens_of
 from .report import Report
 from .sources import LIBRARY_END, WITH, Edit, Sources
+from .texts import SHIPPED_PREFIX
 from .trees import Trees
 from .trying import Candidate
 
@@ -46,7 +47,7 @@ class Repairs:
     def candidates(self) -> Iterator[Candidate]:
         """The changes."""
         makers: Dict[int, Callable[[], Iterator[Candidate]]] = {
-            104: self._syntax, 202: self._library, 205: self._mention, 209: self._pair, 211: self._numeral_or_mention,
+            104: self._syntax, 202: self._library, 205: self._mention, 208: self._formal, 209: self._pair, 211: self._numeral_or_mention,
             301: self._gate, 304: self._gates_of_call, 306: self._boolean, 401: self._functionality, 402: self._guarded,
             501: self._other_form, 502: self._dropped_item}
         maker = makers.get(self._refusal.number)
@@ -228,8 +229,7 @@ class Repairs:
 
     def _pair(self) -> Iterator[Candidate]:
         """A pair for what is not filled: a name that the other texts declare, for the formal one."""
-        types = [it for text in self._trees.texts if text.text == self._text for root in text.roots
-                 for it in all_of(tree.Type, root) if it.place.offset <= self._offset < it.place.end]
+        types = self._types_here()
         if not types or not isinstance(types[0].body, tree.Actualisation):
             return
         end = self._source.rfind(self._source[types[0].place.end - len("endtype"):types[0].place.end], 0, types[0].place.end)
@@ -242,6 +242,25 @@ class Repairs:
                         new = f"_{it.name.text}_" if it.is_infix else it.name.text
                         yield self._candidate(f"the pair {new} for {self._refusal.detail}", end, end,
                                               f"{word} {new} for {self._refusal.detail} ")
+
+    def _formal(self) -> Iterator[Candidate]:
+        """What is filled as formal in its type, or the type renamed in place of filled."""
+        for type_ in self._types_here():
+            assert isinstance(type_.body, tree.Actualisation)
+            base = next(((text, it) for text in self._trees.texts for root in text.roots for it in all_of(tree.Type, root)
+                         if it.name.key == type_.body.base.key), None)
+            olds = {it.old.key for it in type_.body.renames.sorts}
+            if base and isinstance(base[1].body, tree.Extension) and not base[0].text.startswith(SHIPPED_PREFIX):
+                yield from _formal_sorts(base[0].text, base[1], olds, (self._sources.read(base[0].text) or b"").decode("latin-1"))
+            words = [it for it in self._tokens if type_.place.offset <= it.place.offset < type_.place.end]
+            begin = next(it.place.offset for it in words if it.key == "actualizedby")
+            end = next((it.place.end for it in words if it.key == "using"), type_.body.actuals[-1].place.end)
+            yield self._candidate(f"renamedby for {' '.join(self._source[begin:end].split())}", begin, end, "renamedby")
+
+    def _types_here(self) -> List[tree.Type]:
+        """The type around the place that fills another one."""
+        types = [it for text in self._trees.texts if text.text == self._text for root in text.roots for it in all_of(tree.Type, root)]
+        return [it for it in types if it.place.offset <= self._offset < it.place.end and isinstance(it.body, tree.Actualisation)]
 
     def _guarded(self) -> Iterator[Candidate]:
         """An internal event before a call."""
@@ -265,6 +284,18 @@ class Repairs:
 
     def _candidate(self, says: str, begin: int, end: int, new: str) -> Candidate:
         return Candidate(says, (Edit(self._text, begin, end, new.encode("latin-1"), self._word),))
+
+
+def _formal_sorts(text: str, type_: tree.Type, olds: Set[str], source: str) -> Iterator[Candidate]:
+    """The sorts of a type that are filled, behind formalsorts."""
+    assert isinstance(type_.body, tree.Extension)
+    sorts = type_.body.sections.sorts or ()
+    filled, others = [it for it in sorts if it.key in olds], [it for it in sorts if it.key not in olds]
+    if filled and not type_.body.sections.formal_sorts:
+        begin = max(it.start() for it in re.finditer(r"\bsorts\b", source[:sorts[0].place.offset], re.I))
+        new = f"formalsorts {', '.join(it.text for it in filled)}" + (f" sorts {', '.join(it.text for it in others)}" if others else "")
+        edit = Edit(text, begin, sorts[-1].place.end, new.encode("latin-1"))
+        yield Candidate(f"{new} in the type {type_.name.text}", (edit,))
 
 
 NO_WORDS = ("NAME", "DIGIT_NAME", "SIGN_NAME", "RELABEL", "$END")

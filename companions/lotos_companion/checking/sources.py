@@ -31,8 +31,9 @@ class Place:
 
 @dataclass(frozen=True)
 class Edit:
-    """Bytes of a text, from the offset `begin` to `end`, in whose place others stand. Of `with` the word's number is kept too.
-    An edit of the order file of a check that has none gives it one."""
+    """Bytes of a text, from the offset `begin` to `end`, in whose place others stand. Of `with` the word's number is kept too;
+    a word of which nothing is left goes, and one may stand behind the last. An edit of the order file of a check that has none
+    gives it one."""
 
     text: str
     begin: int
@@ -101,12 +102,15 @@ class Sources:
         for edit in sorted(edits, key=lambda it: it.begin, reverse=True):
             if edit.text == WITH:
                 old = self.word(edit.word) or b""
+                values += [""] * (edit.word - len(values))
                 values[edit.word - 1] = (old[:edit.begin] + edit.new + old[edit.end:]).decode("utf-8", "surrogateescape")
             else:
                 text = given[edit.text] if edit.text in given else self.read(edit.text) or b""
                 given[edit.text] = text[:edit.begin] + edit.new + text[edit.end:]
         files = self.words.files + tuple(it.text for it in edits if it.text.endswith(ORDER_END) and len(self.words.files) == 1)
-        words = Words(files, None if self.words.values is None else tuple(values))
+        if any(it.text == WITH for it in edits):
+            values = [it for it in values if it]
+        words = Words(files, tuple(values) if values or self.words.values is not None else None)
         return Sources(words, given, self.folder)
 
 

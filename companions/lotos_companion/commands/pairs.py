@@ -16,7 +16,9 @@ COMMAND = Command(
         "The certificate is printed, and what `lotos bisim` says of it stands on the error stream. This companion is trusted "
         "with nothing: a certificate is right where the program accepts it, and a difference is shown by steps that were taken "
         "in both. Strong bisimulation alone is looked at, where internal events count like all others; weak bisimulation is "
-        "not offered.",),
+        "not offered.",
+        "A certificate has no place for words. Where values of finite sorts were written out, it is one for the two texts in "
+        "FOLDER: a comment in each says which values these are, and so do the error stream and the answer as JSON."),
     statuses=((0, "a certificate is printed, which `lotos bisim` accepts"), (1, "they differ, as is shown"), WRONG_WORDS_STATUS,
               (3, "a specification could not be walked through, or neither was found within the bounds"), OUTPUT_STATUS,
               NO_PROGRAM_STATUS),

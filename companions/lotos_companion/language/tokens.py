@@ -81,15 +81,14 @@ class Lines:
 
     def __init__(self, text: str):
         self._text = text
-        self._line, self._begin = 1, 0
+        self._line, self._begin, self._end = 1, 0, text.find("\n")
 
     def place(self, offset: int, end: int) -> Place:
         """The place between two offsets."""
-        while True:
-            found = self._text.find("\n", self._begin, offset)
-            if found < 0:
-                return Place(self._line, offset - self._begin + 1, offset, end)
-            self._line, self._begin = self._line + 1, found + 1
+        while 0 <= self._end < offset:
+            self._line, self._begin = self._line + 1, self._end + 1
+            self._end = self._text.find("\n", self._begin)
+        return Place(self._line, offset - self._begin + 1, offset, end)
 
 
 def tokens(text: str, with_comments: bool = False) -> Iterator[Token]:

@@ -13,6 +13,7 @@ from .data import Signature
 from .demands import Choices, Comparisons
 from .equations import Data, Equation, read_data
 from .order_file import Listing, PathOrder, listing
+from .smallest import smallest_conflict
 from .solving import GivenUp, Search
 
 ORDER_NAME = "computed.order"
@@ -32,8 +33,8 @@ class Turned:
 @dataclass(frozen=True)
 class Found:
     """What was found. `listing` is the order file, and nothing where none turns all equations; then `unturnable` are those
-    that no order turns from left to right, and `conflict` is a set of others that no order turns together, so that none of it
-    can be left out. `outcome` is the answer of the program to the texts with the order file. The search is given up where it
+    that no order turns from left to right, and `conflict` is a set of others that no order turns together: one of the fewest
+    equations where `is_smallest` says so, and else one of which none can be left out. `outcome` is the answer of the program to the texts with the order file. The search is given up where it
     takes too long, or where nothing was found among the shortest of very many ways to turn an equation."""
 
     data: Data
@@ -41,6 +42,7 @@ class Found:
     turned: Tuple[Turned, ...] = ()
     unturnable: Tuple[Equation, ...] = ()
     conflict: Tuple[Equation, ...] = ()
+    is_smallest: bool = False
     outcome: Optional[Outcome] = None
     is_given_up: bool = False
 
@@ -101,8 +103,8 @@ def _with_conflict(found: Found, search: Search, equations: Sequence[Equation], 
     parts = [choices[it] for it in turnable]
     if search.solve(parts) is not None:
         return found
-    conflict = min((search.conflict(parts, is_backward) for is_backward in (False, True)), key=len)
-    return replace(found, conflict=tuple(equations[turnable[it]] for it in conflict))
+    conflict = smallest_conflict(search, parts)
+    return replace(found, conflict=tuple(equations[turnable[it]] for it in conflict.parts), is_smallest=conflict.is_smallest)
 
 
 def _tried(desk: Desk, sources: Sources, found: Found) -> Found:

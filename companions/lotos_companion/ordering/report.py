@@ -6,6 +6,7 @@ from typing import Any, Dict, Iterator
 from .advice import advice, demand_lines
 from .equations import Equation
 from .finding import Found
+from .smallest import SECONDS
 
 
 def list_lines(found: Found) -> Iterator[str]:
@@ -25,7 +26,9 @@ def fault_lines(found: Found) -> Iterator[str]:
         yield f"no order turns {shown(it, found)} from left to right:"
         yield f"  {advice(it, found.signature)}"
     if found.conflict:
-        yield "no order turns these together, and each of them is needed for that:"
+        yield (f"no order turns these {len(found.conflict)} together, and no smaller set of equations conflicts:" if found.is_smallest
+               else f"no order turns these {len(found.conflict)} together, and each of them is needed for that; the set is irreducible, "
+               f"and was not shown smallest in {SECONDS:g} seconds:")
         for it in found.conflict:
             yield f"  {shown(it, found)}"
             yield from (f"    wants {line}" for line in demand_lines(it, found.signature))
@@ -56,5 +59,6 @@ def as_json(found: Found) -> Dict[str, Any]:
         "answer": found.outcome.first if found.outcome else None,
         "equations": [{**equation(it.equation), "from_left": it.from_left} for it in found.turned],
         "unturnable": [{**equation(it), "advice": advice(it, found.signature)} for it in found.unturnable],
+        "conflict_is_smallest": found.is_smallest if found.conflict else None,
         "conflict": [{**equation(it), "wants": list(demand_lines(it, found.signature))} for it in found.conflict],
     }

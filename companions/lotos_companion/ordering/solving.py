@@ -1,4 +1,4 @@
-"""An order that meets the demands of all equations, where there is one, or a smallest set of them that conflict."""
+"""An order that meets the demands of all equations, where there is one, or some of them that conflict."""
 from __future__ import annotations
 
 from typing import Dict, List, Optional, Sequence, Tuple
