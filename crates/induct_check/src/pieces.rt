@@ -255,8 +255,9 @@ fn tree_piece(known: &Known, item: &[u8]) -> Outcome
     if operations.len() != 1 {
         return Ok(LineOutcome::Nothing);
     }
-    let pattern = first_of_tree(known, operations[0])?;
-    Ok(LineOutcome::Piece(Piece::Tree(operations[0], pattern)))
+    let operation = operations[0];
+    let pattern = first_of_tree(known, operation)?;
+    Ok(LineOutcome::Piece(Piece::Tree(operation, pattern)))
 }
 
 // A split in a tree.

@@ -18,16 +18,16 @@ returns-then-len-ne1 c =
 
 pub first_of_tree-requires : goal.first_of_tree-requires
 first_of_tree-requires c =
-    tree_operation (known_signature c.args.known.now) c.args.item.now c.in-Some.operations.items c.index.result.now
+    tree_operation (known_signature c.args.known.now) c.args.item.now c.in-Some.operations.items c.index-operation.result.now
     (match_some_at _ _ c.in_ok-operations.field-0 c.in-Some.operations c.in-Some.is c.in_ok-operations.ensures)
-    (one_item c.in-Some.operations.items c.index.result.now
-    (sym (c.len.ensures ∙ c.in-Some.operations.ok.0) ∙ c.if-len-ne1.false) c.index.ensures)
+    (one_item c.in-Some.operations.items c.index-operation.result.now
+    (sym (c.len.ensures ∙ c.in-Some.operations.ok.0) ∙ c.if-len-ne1.false) c.index-operation.ensures)
 
 pub returns : goal.returns
 returns c =
-    let given = gives_tree (known_signature c.args.known.now) c.args.item.now c.in-Some.operations.items c.index.result.now
+    let given = gives_tree (known_signature c.args.known.now) c.args.item.now c.in-Some.operations.items c.index-operation.result.now
     (pattern_in c.in_ok-pattern.pattern)
     (match_some_at _ _ c.in_ok-operations.field-0 c.in-Some.operations c.in-Some.is c.in_ok-operations.ensures)
-    (one_item c.in-Some.operations.items c.index.result.now
-    (sym (c.len.ensures ∙ c.in-Some.operations.ok.0) ∙ c.if-len-ne1.false) c.index.ensures) c.in_ok-pattern.ensures.first in
+    (one_item c.in-Some.operations.items c.index-operation.result.now
+    (sym (c.len.ensures ∙ c.in-Some.operations.ok.0) ∙ c.if-len-ne1.false) c.index-operation.ensures) c.in_ok-pattern.ensures.first in
     (given.0, (given.1, c.in_ok-pattern.ensures.known))

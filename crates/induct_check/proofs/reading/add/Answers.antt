@@ -14,7 +14,7 @@ returns-in_ok-push-in-Cover-clause-known c = λ known piece.
     record {
       certificate = record { trees = known.certificate.trees; lemmas = known.certificate.lemmas };
       covers = subst (λ (covers : List Cover). CoversHaveResults signature covers)
-          (sym (pushed cover_in old c.push-in-Cover.new.self.items c.in-Cover.cover c.in_ok-push-in-Cover.ensures.items))
+          (sym (pushed cover_in old c.push.new.self.items c.in-Cover.cover c.in_ok-push-in-Cover.ensures.items))
           (results_with signature (covers_in old) (cover_in c.in-Cover.cover) known.covers
           (subst (IsKnownPiece signature) c.in-Cover.is piece));
       part = tt;
