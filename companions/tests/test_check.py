@@ -55,6 +55,14 @@ class Tables(unittest.TestCase):
         self.assertEqual(shown, "".join(SHIPPED.values()))
 
 
+    def test_the_pages_lead_to_what_helps(self):
+        for page in ("REFUSALS", "LANGUAGE"):
+            text = read(f"{TOP}/docs/{page}.md")
+            self.assertIn("docs/CHECKING.md", text)
+            self.assertIn("lotos-check", text)
+        self.assertIn("lotos-order", read(f"{TOP}/docs/LANGUAGE.md"))
+
+
 class Marks(unittest.TestCase):
     """Marks below lines: columns count bytes, and a terminal shows letters."""
 

@@ -158,6 +158,18 @@ class Reports(FolderTest):
         self.assertIsNone(finite.values("Bool", 3))
 
 
+class NeverSaid(unittest.TestCase):
+    """What is never said: only the program says that anything is proved, equal or free of deadlocks."""
+
+    def test_nothing_of_its_own_says_that_anything_holds(self):
+        for folder in ("exploring", "bisimulation", "flattening"):
+            for name in sorted(os.listdir(f"{COMPANIONS}/lotos_companion/{folder}")):
+                if name.endswith(".py"):
+                    text = re.sub(r'"""[\s\S]*?"""|#.*', "", read(f"{COMPANIONS}/lotos_companion/{folder}/{name}"))
+                    said = [it for it in re.findall(r'"([^"\n]*)"', text) if it not in ("bisimilar ", "equal")]
+                    self.assertEqual([], [it for it in said if re.search(r"\b(proved|equal|bisimilar|deadlock.?free)\b", it)], name)
+
+
 class Files(FolderTest):
     """What is written for other tools, and pictures."""
 

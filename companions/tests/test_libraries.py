@@ -45,6 +45,18 @@ LAWS = {
 }
 
 
+# What there has to be, by the name of its library.
+WANTED = ("Element", "BooleanOperations", "Naturals", "Digits", "Integers", "List", "Set", "Bag", "Queue", "Stack", "Map", "Option",
+          "Pair", "Character", "String", "Bit", "Byte", "BitString", "OctetString")
+
+
+def test_there_is_each_wanted_type_and_the_page_compares_it_with_the_annex():
+    assert {*WANTED, "Counting"} == set(NAMES)
+    table = re.search(r"\| In the annex \| Here \| What differs \|\n(.*?)\n\n", read(f"{TOP}/docs/LIBRARIES.md"), re.S)[1]
+    here = {name for row in table.splitlines() for name in re.findall(r"`(\w+)`", row.split("|")[2])}
+    assert set(WANTED) <= here
+
+
 @pytest.fixture
 def folder(tmp_path, monkeypatch):
     """A folder of its own with all libraries."""

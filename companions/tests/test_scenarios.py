@@ -164,12 +164,21 @@ class Played(FolderTest):
         self.assert_verdict(Verdict.PASSED, "i", "g !Succ(Succ(0))", text=choice)
         self.assert_verdict(Verdict.PASSED, "i for Succ(0)", "g !Succ(0)", text=choice)
         # There are more values than can be tried.
-        self.assert_verdict(Verdict.INCONCLUSIVE, "possible: must", "not h", text=choice)
+        for kind, item in (("must", "not h"), ("never", "h !0")):
+            result = self.assert_verdict(Verdict.INCONCLUSIVE, f"possible: {kind}", item, text=choice)
+            self.assertIn("not all values were tried of an entry with variables: their sorts have more than are tried", result.said)
         # Of these there are two.
         colour = "type C is sorts C opns red, blue : -> C endtype"
         two = choice.replace("library NaturalNumber endlib", colour).replace("Nat", "C")
         self.assert_verdict(Verdict.PASSED, "possible: must", "not h", text=two)
         self.assert_verdict(Verdict.FAILED, "i", "g !blue", "i", text=two)
+
+    def test_all_values_of_a_sort_with_few_are_tried(self):
+        choice = "specification S [g] : noexit library Boolean endlib behaviour choice x:Bool [] i; g !x; stop endspec"
+        self.assert_verdict(Verdict.PASSED, "possible: must", "not h", text=choice)
+        self.assert_verdict(Verdict.PASSED, "possible: never", "h !true", text=choice)
+        self.assert_verdict(Verdict.FAILED, "possible: must", "g !true", text=choice)
+        self.assert_verdict(Verdict.FAILED, "possible: never", "g !false", text=choice)
 
     def test_a_refused_specification(self):
         from lotos_companion.session import Ended

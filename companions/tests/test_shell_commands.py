@@ -1,6 +1,7 @@
 """The commands of the shell, typed into a pipe: what each answers, and what it leaves as it was."""
 import os
 import re
+import signal
 import subprocess
 import unittest
 
@@ -134,6 +135,53 @@ class CopiedLines(CommandTest):
         self.assertIn("1: i (i of Second)\n", answers[1])
         self.assertTrue(answers[2].startswith("did i (pass !2, hidden in Line)\n"))
         self.assertIn("did get !2\n", answers[3])
+
+
+@unittest.skipUnless(has_grammar(), "names of hidden events, since there is no python3-lark")
+class NamesOff(CommandTest):
+    """Names that cannot be told: the shell says so with a word, and goes on without them."""
+
+    def test_a_second_session_that_is_killed(self):
+        self.write("line.lotos", LINE)
+        with subprocess.Popen([f"{COMPANIONS}/lotos-shell", "--names", "line.lotos"], stdin=subprocess.PIPE, stdout=subprocess.PIPE,
+                              env={**os.environ, "LOTOS": PROGRAM}) as shell:
+            self.addCleanup(shell.kill)
+            self.typed(shell, "step put 0", "find ~")
+            said = self.until_found(shell)
+            self.assertIn("2: i (pass !0, hidden in Line)", said)
+            sessions = [it for it in read(f"/proc/{shell.pid}/task/{shell.pid}/children").split()
+                        if "line.lotos" not in read(f"/proc/{it}/cmdline").split("\0")]
+            self.assertEqual(len(sessions), 1)
+            os.kill(int(sessions[0]), signal.SIGKILL)
+            self.typed(shell, "2", "find ~")
+            said = self.until_found(shell)
+            self.assertIn("# hidden events have no names: the second session ended by the signal 9", said)
+            self.assertTrue({"did i", "2: get !0"} <= set(said), said)
+            self.typed(shell, "undo", "find ~")
+            self.assertTrue({"undone", "2: i"} <= set(self.until_found(shell)))
+
+    def test_a_text_that_is_too_large(self):
+        self.write("large.lotos", f"specification S [g] : noexit behaviour {'g; (i; stop) ||| ' * 410} stop endspec")
+        answers = self.pipe_once("large.lotos", "step 1\nstep 1\n")
+        self.assertIn("# hidden events have no names: more than 400 fresh gates", answers)
+
+    def pipe_once(self, spec, typed):
+        """What a shell with names writes."""
+        status, output, said = self.run_companion("lotos-shell", "--names", spec, typed=typed)
+        self.assertEqual((status, said), (0, ""))
+        return output
+
+    def typed(self, shell, *lines):
+        shell.stdin.write("".join(f"{it}\n" for it in lines).encode())
+        shell.stdin.flush()
+
+    def until_found(self, shell):
+        """The lines up to the answer to `find ~`."""
+        lines = []
+        while not lines or not lines[-1].startswith("# 0 of "):
+            lines.append(shell.stdout.readline().decode()[:-1])
+            self.assertTrue(lines[-1])
+        return lines
 
 
 class FittingValues(CommandTest):

@@ -72,6 +72,13 @@ class InATerminal(FolderTest):
         self.wait("status 0")
         self.assertTrue(os.path.exists("state/lotos-shell/history"))
 
+    def test_the_prompt_counts_branches_and_steps(self):
+        self.start("dispenser.lotos")
+        for line, prompt in (("1 fifty", "lotos 1>"), ("1 coffee", "lotos 2>"), ("back", "lotos 1/2>"), ("2", "lotos 2:2>"),
+                             ("back 2", "lotos 1:0/2>"), ("goto 1:", "lotos 1:2>")):
+            self.type_line(line)
+            self.wait(prompt)
+
     def test_completion(self):
         self.start("alternating_bit.lotos")
         self.wait("lotos 0>")

@@ -43,11 +43,12 @@ class Missed:
 @dataclass
 class Inevitable:
     """What the search came to: a way on which the scenario does not happen if one was found, the first on which it does,
-    whether something was left out, and the number of states."""
+    whether something was left out, whether some of it were values of variables, and the number of states."""
 
     missed: Optional[Missed] = None
     way: Tuple[Taken, ...] = ()
     has_left_out: bool = False
+    has_left_values: bool = False
     states: int = 0
     whole: Set[State] = field(default_factory=set)
 
@@ -74,6 +75,7 @@ class InevitableSearch:
             self._found.has_left_out = self._matcher.has_left_out
         except TooMany:
             self._found.has_left_out = True
+        self._found.has_left_values = self._matcher.has_left_out
         return self._found
 
     def _go_on(self, frame: Frame) -> None:

@@ -2,6 +2,8 @@
 from __future__ import annotations
 
 from dataclasses import dataclass
+from itertools import product
+from math import prod
 from typing import Dict, Iterator, List, Optional, Tuple
 
 from ..answers import Entry
@@ -14,6 +16,8 @@ from .values import Equality
 
 # How many values are tried for the variables of an entry of which nothing is known.
 MOST_VALUES = 32
+# The most operations of a value of a sort of which all values are tried.
+LARGEST_VALUE = 3
 
 
 @dataclass(frozen=True)
@@ -49,6 +53,7 @@ class Matcher:
         self._called = Called(play)
         self._equality = Equality(play)
         self._found: Dict[str, List[Tuple[str, ...]]] = {}
+        self._values: Dict[str, Optional[Tuple[str, ...]]] = {}
         self.has_left_out = False
 
     def candidates(self, event: Event, renamings: Renamings) -> List[Candidate]:
@@ -98,13 +103,31 @@ class Matcher:
     def _fitting(self, entry: Entry) -> List[Tuple[str, ...]]:
         """Values with which an entry can be taken. They depend on its line alone."""
         if entry.line not in self._found:
-            self._found[entry.line] = list(fitting(self._play, entry, MOST_VALUES))
+            self._found[entry.line] = list(self._all_choices(entry) or fitting(self._play, entry, MOST_VALUES))
         return self._found[entry.line]
 
     def _are_all(self, entry: Entry) -> bool:
-        """Whether there are no other values: each of their sorts has constants alone."""
+        """Whether there are no other values."""
         operations = [it for sort in entry.sorts for it in self._play.signature.of_sort(sort)]
-        return len(self._fitting(entry)) < MOST_VALUES and bool(operations) and not any(it.arguments for it in operations)
+        have_constants_alone = bool(operations) and not any(it.arguments for it in operations)
+        return self._all_choices(entry) is not None or have_constants_alone and len(self._fitting(entry)) < MOST_VALUES
+
+    def _all_choices(self, entry: Entry) -> Optional[List[Tuple[str, ...]]]:
+        """All choices of values for the variables of an entry, where their sorts have few, whether or not they fit."""
+        listed = [self._values_of(it) for it in entry.sorts]
+        known = [it for it in listed if it is not None]
+        return list(product(*known)) if len(known) == len(listed) and prod(map(len, known)) <= MOST_VALUES else None
+
+    def _values_of(self, sort: str) -> Optional[Tuple[str, ...]]:
+        """The values of a sort, where those up to a small size are all."""
+        if sort not in self._values:
+            from ..exploring.finite_sorts import FiniteSorts
+            finite = FiniteSorts(self._play.program, self._play.words)
+            try:
+                self._values[sort] = finite.values(sort, LARGEST_VALUE)
+            finally:
+                finite.close()
+        return self._values[sort]
 
     def _candidate(self, entry: Entry, called: Event, event: Event, renamings: Renamings) -> Optional[Candidate]:
         """An entry as a candidate for an event, or nothing if it cannot be it."""

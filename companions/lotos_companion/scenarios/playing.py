@@ -2,11 +2,11 @@
 from __future__ import annotations
 
 from dataclasses import replace
-from typing import Optional, Tuple
+from typing import Optional, Tuple, Union
 
 from ..play import Play
 from .called import Called
-from .inevitable import InevitableSearch
+from .inevitable import Inevitable, InevitableSearch
 from .renaming import Renamings
 from .results import Result, Taken, Verdict
 from .scenario import Gap, Kind, Scenario
@@ -55,9 +55,11 @@ def _verdict(is_right: bool, is_open: bool) -> Verdict:
     return Verdict.PASSED if is_right else Verdict.FAILED
 
 
-def _bound(found: Found) -> Tuple[str, ...]:
+def _bound(found: Union[Found, Inevitable]) -> Tuple[str, ...]:
     """What is said where the search ended before all was tried."""
-    return (f"the search ended after {found.states} steps; not all was tried",) if found.has_left_out else ()
+    values = ("not all values were tried of an entry with variables: their sorts have more than are tried",)
+    ended = (f"the search ended after {found.states} steps; not all was tried",) if found.has_left_out else ()
+    return (*ended, *(values if found.has_left_values else ()))
 
 
 def _way(way: Tuple[Taken, ...]) -> Tuple[str, ...]:
@@ -72,5 +74,5 @@ def _must(play: Play, scenario: Scenario, renamings: Renamings) -> Result:
     if found.missed:
         said = ("there is a way on which it does not happen:", *_way(found.missed.taken), f"  and then {found.missed.why}")
         return Result(Verdict.FAILED, scenario, found.missed.taken, search.parting(), said, states=found.states)
-    said = (f"the search ended after {found.states} steps; not all was tried",) if found.has_left_out else ()
+    said = _bound(found)
     return Result(_verdict(True, found.has_left_out), scenario, found.way, said=said, states=found.states)

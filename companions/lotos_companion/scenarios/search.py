@@ -55,13 +55,14 @@ class Furthest:
 @dataclass
 class Found:
     """What a search came to: the steps of the way if there is one, what stands for names, the state that came furthest,
-    whether something was left out, whether an event was taken for impossible of which not all values were tried, and the
+    whether something was left out, whether some of it were values of variables, whether an event was taken for impossible of which not all values were tried, and the
     number of states."""
 
     way: Optional[Tuple[Taken, ...]] = None
     renamings: Renamings = field(default_factory=Renamings)
     furthest: Furthest = field(default_factory=Furthest)
     has_left_out: bool = False
+    has_left_values: bool = False
     is_doubtful: bool = False
     states: int = 0
 
@@ -95,7 +96,8 @@ class Search:
                     break
         except TooMany:
             self._was_cut = True
-        self._found.has_left_out = self._was_cut or self._matcher.has_left_out
+        self._found.has_left_values = self._matcher.has_left_out
+        self._found.has_left_out = self._was_cut or self._found.has_left_values
         return self._found
 
     def _pass(self) -> bool:
