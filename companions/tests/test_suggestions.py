@@ -4,6 +4,7 @@ import os
 import random
 import shutil
 import subprocess
+import time
 import unittest
 
 import pytest
@@ -12,8 +13,11 @@ from .helpers import EXAMPLES, PROGRAM, FolderTest, read
 from .misspelled import with_misspelling
 from .test_check import LONG, refused_examples
 from lotos_companion.checking.check import check
+from lotos_companion.checking.desk import Desk
 from lotos_companion.checking.report_text import help_lines
 from lotos_companion.checking.near import distance, nearest
+from lotos_companion.checking.sources import Edit, Sources
+from lotos_companion.checking.trying import Candidate, Trials
 from lotos_companion.language import Kind, has_grammar, tokens
 from lotos_companion.program import Words
 
@@ -291,6 +295,19 @@ class Suggestions(FolderTest):
             done = subprocess.run([PROGRAM, "check", "bad.lotos"], stdout=subprocess.PIPE, check=False)
             if done.returncode == 1:
                 return text
+
+    def test_the_time_for_changes_begins_with_the_first_that_is_tried(self):
+        """What stands at the place may take long: changes are tried all the same, and none when the time for them is over."""
+        sources = Sources(Words(("s.lotos",)), {"s.lotos": b"specification S : noexit behaviour stpo endspec"})
+        mended = [Candidate(f"{it} for stpo", (Edit("s.lotos", 35, 39, it),)) for it in (b"stop", b"exit", b"(stop)")]
+        with Desk(PROGRAM) as desk:
+            trials = Trials(desk, sources, desk.check(sources), 10, 0.05)
+            time.sleep(0.1)
+            self.assertFalse(trials.is_over)
+            self.assertTrue(trials.found(mended)[0].outcome.is_accepted)
+            time.sleep(0.1)
+            self.assertTrue(trials.is_over)
+            self.assertEqual([], trials.found(mended))
 
     def test_misspelled_words_are_found(self):
         self.assertGreaterEqual(self.found(10, 7, ["dispenser.lotos", "two_cells.lotos", "vending_machine.lotos"]), 9)

@@ -28,19 +28,20 @@ class Candidate:
 
 
 class Trials:
-    """Tries changes of texts that were refused. No more calls than `most` are made, and none after `seconds`."""
+    """Tries changes of texts that were refused. No more calls than `most` are made, and none more than `seconds` after the first."""
 
     def __init__(self, desk: Desk, sources: Sources, outcome: Outcome, most: int, seconds: float = SECONDS):
         self._desk = desk
         self._sources = sources
         self._outcome = outcome
         self._left = most
-        self._end = time.monotonic() + seconds
+        self._seconds = seconds
+        self._end: Optional[float] = None
 
     @property
     def is_over(self) -> bool:
         """Whether nothing more is tried."""
-        return self._left <= 0 or time.monotonic() > self._end
+        return self._left <= 0 or self._end is not None and time.monotonic() > self._end
 
     def found(self, candidates: Iterable[Candidate]) -> List[Suggestion]:
         """The changes that were accepted, and then those with which the first fault stands further on, each kind in the order
@@ -63,6 +64,8 @@ class Trials:
 
     def outcome(self, edits: Tuple[Edit, ...]) -> Outcome:
         """The answer to the texts with these edits."""
+        if self._end is None:
+            self._end = time.monotonic() + self._seconds
         self._left -= 1
         return self._desk.check(self._sources.edited(edits))
 
