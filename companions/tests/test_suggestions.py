@@ -61,7 +61,8 @@ SHOWN = (
 
 
 # Of examples of docs/REFUSALS.md, by their numbers: a change that is shown, and accepted.
-MENDED = {104: "[0 lt Succ(0)] -> g for g [0 lt Succ(0)]", 202: "NaturalNumber for NaturalNumbers at 3:14",
+MENDED = {101: "the rest of the line in a comment", 102: "*) at the end of the line",
+          104: "[0 lt Succ(0)] -> g for g [0 lt Succ(0)]", 202: "NaturalNumber for NaturalNumbers at 3:14", 203: "the mention of B left out",
           106: "the mention of T65 left out", 201: "Boolean2 for Boolean at s.lotos:3:6, where it is declared",
           204: "S at s.lotos:4:17 left out, and A mentioned by the type B", 205: "NaturalNumber mentioned by the type Pairs",
           206: "size at s.lotos:4:14 left out", 207: "c for d at 5:18", 208: "formalsorts E in the type A", 209: "the pair 0 for none",
@@ -71,7 +72,8 @@ MENDED = {104: "[0 lt Succ(0)] -> g for g [0 lt Succ(0)]", 202: "NaturalNumber f
           303: "y for x at 4:11", 304: "the gate h added to the call of P",
           305: "0 added to the values of P", 306: "c = ten for c", 402: "i; before P", 501: "_gt_ for gt",
           502: "_gt_ : Nat, Nat -> Bool; left out", 503: "right for rigth at s.order:1:6",
-          601: "the order file s.order, as lotos-order writes it", 602: "the order file s.order, as lotos-order writes it", 701: "0 left out"}
+          601: "the order file s.order, as lotos-order writes it", 602: "the order file s.order, as lotos-order writes it",
+          701: "0 left out"}
 # What is told of the example of a limit.
 TOLD = {103: ["it has 1,150,058 bytes, 101,482 more than the limit", "25,000 types of it have 700,000 bytes, the longest:",
               "  T at s.lotos:2:8 has 28 bytes"],
@@ -162,8 +164,8 @@ class Suggestions(FolderTest):
             report = check(PROGRAM, Words.read(["car_park.lotos", *words]))
             self.assertEqual(104 if "0)" in words else 701, report.outcome.refusal.number)
             self.assertIn(wanted, [it.says for it in report.suggestions if it.outcome.is_accepted], words)
-        self.write("bools.lotos", "specification S [g] : noexit type B is sorts Bool, C opns true, no : -> Bool a : -> C f : C -> Bool endtype "
-                                  "behaviour g ?x : C [x]; stop endspec")
+        self.write("bools.lotos", "specification S [g] : noexit type B is sorts Bool, C opns true, no : -> Bool a : -> C f : C -> Bool "
+                                  "endtype behaviour g ?x : C [x]; stop endspec")
         self.assertIn("x = a for x (accepted with it)", self.help("", "bools.lotos"))
 
     def test_where_a_deep_behaviour_stands(self):

@@ -120,8 +120,9 @@ class Counts:
             for it in conditions:
                 if it.right is None and self._offset in (it.left.place.offset, it.left.name.place.offset):
                     shown = self._shown(it.left.place.offset, it.left.place.end)
+                    end = it.left.place.end
                     for constant in [term for sort in self._sorts(it.left) for term in self._constants(sort)][:MOST_CHOICES]:
-                        yield self._candidate(f"{shown} = {constant} for {shown}", it.left.place.end, it.left.place.end, f" = {constant}")
+                        yield self._candidate(f"{shown} = {constant} for {shown}", end, end, f" = {constant}")
 
     def _sorts(self, term: tree.Term) -> Iterator[str]:
         """The sorts that a term may have, by the declarations of its name."""

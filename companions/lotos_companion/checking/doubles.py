@@ -100,7 +100,7 @@ class Doubles:
         for item in (it for root in text.roots for it in all_of(tree.Library, root)):
             for at, name in enumerate(item.names):
                 if library.text.lower() in (f"{SHIPPED_PREFIX}{name.key}", f"{name.key}.lib"):
-                    begin, end = _of_list([it.place for it in item.names], at)
+                    begin, end = of_list([it.place for it in item.names], at)
                     if len(item.names) == 1:
                         begin, end = item.place.offset, item.place.end
                     yield self._edit(f"the mention of the library {name.text} left out", text.text, begin, end)
@@ -167,7 +167,7 @@ def _sorts(text: str, type_: tree.Type, sections: tree.Sections, source: str) ->
     """The sorts that a type declares."""
     for names in (sections.formal_sorts or (), sections.sorts or ()):
         for at, name in enumerate(names):
-            begin, end = _of_list([it.place for it in names], at)
+            begin, end = of_list([it.place for it in names], at)
             begin = begin if len(names) > 1 else _section_begin(source, begin)
             yield Declared(text, type_, (name.key,), name, begin, end)
 
@@ -177,7 +177,7 @@ def _operations(text: str, type_: tree.Type, sections: tree.Sections, source: st
     for lines in (sections.formal_operations or (), sections.operations or ()):
         for line in lines:
             for at, it in enumerate(line.operations):
-                begin, end = _of_list([one.place for one in line.operations], at)
+                begin, end = of_list([one.place for one in line.operations], at)
                 if len(line.operations) == 1:
                     end = line.result.place.end
                     begin = begin if len(lines) > 1 else _section_begin(source, begin)
@@ -185,7 +185,7 @@ def _operations(text: str, type_: tree.Type, sections: tree.Sections, source: st
                 yield Declared(text, type_, key, it.name, begin, end)
 
 
-def _of_list(places: Sequence[Place], at: int) -> Tuple[int, int]:
+def of_list(places: Sequence[Place], at: int) -> Tuple[int, int]:
     """The part of a list with commas that has to go with one of its members."""
     if at > 0:
         return places[at - 1].end, places[at].end

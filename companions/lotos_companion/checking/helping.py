@@ -30,7 +30,7 @@ DOUBLES = (DOUBLE_TYPE, DOUBLE_SORT, DOUBLE_OPERATION)
 COUNTED = (SYNTAX, VALUE_COUNT, NO_BOOL, START_VALUES)
 # Limits; and what is less often misspelled than something else.
 LIMITS = (TOO_LONG, TOO_DEEP, LIBRARIES, TOO_LARGE)
-REPAIRED_FIRST = (304, 306, 401, 402, 501, 502)
+REPAIRED_FIRST = (203, 304, 306, 401, 402, 501, 502)
 
 # What stands at the place, and the changes that come first.
 Help = Tuple[List[str], Iterable[Candidate]]

@@ -9,6 +9,7 @@ from ..language.reading import NoGrammar, fitting
 from ..language.tokens import Kind as TokenKind
 from ..language.tokens import Token
 from ..language.walking import all_of
+from .doubles import of_list
 from .misspelling import library_names
 from .names import Kind
 from .outcome import Refusal
@@ -34,6 +35,7 @@ class Repairs:
         self._refusal: Refusal = report.outcome.refusal
         self._text = report.span.begin.text
         self._word = report.span.begin.line if self._text == WITH else 0
+        self._length = report.span.end.column - report.span.begin.column
         self._offset = self._sources.offset(report.span.begin)
         text = self._sources.word(self._word) if self._word else self._sources.read(self._text)
         self._source = (text or b"").decode("latin-1")
@@ -47,7 +49,8 @@ class Repairs:
     def candidates(self) -> Iterator[Candidate]:
         """The changes."""
         makers: Dict[int, Callable[[], Iterator[Candidate]]] = {
-            104: self._syntax, 202: self._library, 205: self._mention, 208: self._formal, 209: self._pair, 211: self._numeral_or_mention,
+            101: self._bad_byte, 102: self._open_comment, 104: self._syntax, 202: self._library,
+            203: self._without_mention, 205: self._mention, 208: self._formal, 209: self._pair, 211: self._numeral_or_mention,
             301: self._gate, 304: self._gates_of_call, 306: self._boolean, 401: self._functionality, 402: self._guarded,
             501: self._other_form, 502: self._dropped_item}
         maker = makers.get(self._refusal.number)
@@ -86,6 +89,29 @@ class Repairs:
                  if text == self._text and it.scope.offset <= self._offset < it.scope.end]
         inner = max((it.scope.offset for it in found), default=0)
         return list(dict.fromkeys(it.name for it in found if it.scope.offset == inner))
+
+    def _bad_byte(self) -> Iterator[Candidate]:
+        """The rest of the line put into a comment, or the letter left out."""
+        end = self._offset + len(self._source[self._offset:].split("\n", 1)[0].rstrip())
+        yield self._candidate("the rest of the line in a comment", self._offset, end, f"(* {self._source[self._offset:end]} *)")
+        yield self._candidate("the letter left out", self._offset, self._offset + self._length, "")
+
+    def _open_comment(self) -> Iterator[Candidate]:
+        """A blank that parts what is no comment, or the end of the comment behind its line or behind the text."""
+        if self._source.startswith("(*)", self._offset):
+            yield self._candidate("a blank behind the ( of (*)", self._offset + 1, self._offset + 1, " ")
+        end = self._offset + len(self._source[self._offset:].split("\n", 1)[0].rstrip())
+        yield self._candidate("*) at the end of the line", end, end, " *)")
+        yield self._candidate("*) at the end of the text", len(self._source), len(self._source), " *)")
+
+    def _without_mention(self) -> Iterator[Candidate]:
+        """A type without the mention at the place."""
+        for text in self._trees.texts:
+            for body in (it for root in text.roots for it in all_of(tree.Extension, root)) if text.text == self._text else ():
+                for at, base in enumerate(body.bases):
+                    if base.place.offset == self._offset:
+                        begin, end = of_list([it.place for it in body.bases], at)
+                        yield self._candidate(f"the mention of {base.text} left out", begin, end, "")
 
     def _syntax(self) -> Iterator[Candidate]:
         """A word or sign put in before the one that does not fit, or that one left out."""
