@@ -199,12 +199,14 @@ def test_what_takes_part_in_the_examples(words, plays):
     assert actions.why_off is None
 
 
-def test_what_takes_part_in_drawn_texts():
+def test_what_takes_part_in_drawn_texts(monkeypatch, tmp_path):
+    monkeypatch.chdir(tmp_path)
     assert walk_drawn(range(5000, 5025), 8)[0] > 15
 
 
 @pytest.mark.slow
-def test_what_takes_part_in_many_drawn_texts():
+def test_what_takes_part_in_many_drawn_texts(monkeypatch, tmp_path):
+    monkeypatch.chdir(tmp_path)
     texts, taken = walk_drawn(range(6000, 6400), 12)
     print(f"{texts} texts, {taken} steps")
     assert texts > 300 and taken > 1000

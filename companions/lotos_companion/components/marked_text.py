@@ -4,10 +4,10 @@ from __future__ import annotations
 from dataclasses import dataclass, replace
 from typing import Dict, List, Tuple, Union
 
-from ..language import read_specification, text_of, tokens, tree
+from ..language import text_of, tokens, tree
+from ..naming.deep_calls import deep_calls
 from ..naming.definitions import SPECIFICATION, Definitions
-from ..naming.second_text import deep_calls
-from ..naming.source_places import source_places
+from ..naming.source_places import read_definitions
 from .marking import Marker, Words, added_type
 from .occurrences import Occurrence
 
@@ -23,9 +23,9 @@ class MarkedText:
 
 def marked_text(flat: str, source: str) -> MarkedText:
     """The marked text of a flat text, with places in the specification's own text. `NoTree` and `NoGrammar` as in reading."""
-    specification = read_specification(flat)
+    definitions = read_definitions(flat, source)
+    specification = definitions.specification
     with deep_calls():
-        definitions = Definitions(specification, source_places(read_specification(source), specification))
         words = Words(_unused_stem(flat))
         made = _marked(definitions, words)
     types = tuple(it for it in specification.items if isinstance(it, tree.Type))

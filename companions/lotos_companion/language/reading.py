@@ -47,8 +47,9 @@ def has_grammar() -> bool:
     return True
 
 
+@lru_cache(4)
 def read_specification(text: str) -> Specification:
-    """The tree of a specification."""
+    """The tree of a specification. (The last ones are kept: some texts are read for several ends.)"""
     tree = _read(text, "specification")
     assert isinstance(tree, Specification)
     return tree

@@ -1,29 +1,44 @@
 """All parts of a tree, one after the other."""
 from __future__ import annotations
 
-from dataclasses import fields, is_dataclass
-from typing import Any, Iterator, List, Type, TypeVar
+from dataclasses import fields
+from typing import Any, Dict, Iterator, List, Tuple, Type, TypeVar
 
 from .tokens import Place
 
 Part = TypeVar("Part")
+# The names of the fields by the kinds of parts, as far as they were asked.
+FIELDS: Dict[type, Tuple[str, ...]] = {}
 
 
 def parts_below(part: Any) -> Iterator[Any]:
     """The parts that a part consists of, in the order of its fields, those in lists one by one."""
-    for field in fields(part):
-        value = getattr(part, field.name)
-        for it in _flat(value):
-            if is_dataclass(it) and not isinstance(it, Place):
-                yield it
+    for name in _fields(type(part)):
+        value = getattr(part, name)
+        if isinstance(value, tuple):
+            yield from _listed(value)
+        elif _is_part(value):
+            yield value
 
 
-def _flat(value: Any) -> Iterator[Any]:
-    if isinstance(value, tuple):
-        for it in value:
-            yield from _flat(it)
-    else:
-        yield value
+def _fields(kind: type) -> Tuple[str, ...]:
+    """The names of the fields of a kind of parts."""
+    if kind not in FIELDS:
+        FIELDS[kind] = tuple(it.name for it in fields(kind))
+    return FIELDS[kind]
+
+
+def _is_part(value: Any) -> bool:
+    return hasattr(value, "__dataclass_fields__") and not isinstance(value, Place)
+
+
+def _listed(values: Tuple[Any, ...]) -> Iterator[Any]:
+    """The parts in a list, and in the lists in it."""
+    for it in values:
+        if isinstance(it, tuple):
+            yield from _listed(it)
+        elif _is_part(it):
+            yield it
 
 
 def walk(part: Any) -> Iterator[Any]:

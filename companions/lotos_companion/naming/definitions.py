@@ -4,7 +4,7 @@ from __future__ import annotations
 from collections import Counter
 from typing import Dict, List, Optional, Tuple, Union
 
-from ..language import all_of, text_of, tree
+from ..language import text_of, tree, walk
 from ..language.tokens import Place
 from .call_graph import circles
 from .hidden_events import Kind, Origin
@@ -26,9 +26,10 @@ class Definitions:
         for it in specification.inner:
             if isinstance(it, tree.Process):
                 self.by_name[it.heading.name.key] = it
-        self._calls = {name: list(all_of(tree.Call, it.body)) for name, it in self.by_name.items()}
+        parts = {name: list(walk(it.body)) for name, it in self.by_name.items()}
+        self._calls = {name: [it for it in listed if isinstance(it, tree.Call)] for name, listed in parts.items()}
         self._call_texts = {place: text for calls in self._calls.values() for place, text in _call_texts(calls)}
-        self._alike = Counter(it for name in self.by_name for it in self._names_in(name))
+        self._alike = Counter((name, *it) for name, listed in parts.items() for part in listed for it in _hidden_by(part))
 
     def groups(self) -> List[Tuple[str, ...]]:
         """The names in groups that call each other, those that are called before those that call."""
@@ -51,12 +52,12 @@ class Definitions:
         is_alone = self._alike[name, kind, gate.lower()] < 2
         return Origin(kind, gate, self.written(name), (), self.source_place(place), is_alone)
 
-    def _names_in(self, name: str) -> List[Tuple[str, Kind, str]]:
-        """What is hidden in a definition."""
-        body = self.by_name[name].body
-        return [*((name, Kind.HIDDEN, gate.key) for it in all_of(tree.Hide, body) for gate in it.gates),
-                *((name, Kind.INNER, "i") for _ in all_of(tree.Inner, body)),
-                *((name, Kind.ENDED, "exit") for _ in all_of(tree.Enable, body))]
+
+def _hidden_by(part: object) -> List[Tuple[Kind, str]]:
+    """What a part of a behaviour hides."""
+    if isinstance(part, tree.Hide):
+        return [(Kind.HIDDEN, it.key) for it in part.gates]
+    return [(Kind.INNER, "i")] if isinstance(part, tree.Inner) else [(Kind.ENDED, "exit")] if isinstance(part, tree.Enable) else []
 
 
 def _call_texts(calls: List[tree.Call]) -> List[Tuple[int, str]]:

@@ -1,21 +1,18 @@
 """The second text: the flat one with what is hidden visible at fresh gates, each of which tells what it stands for."""
 from __future__ import annotations
 
-import sys
-from contextlib import contextmanager
 from dataclasses import dataclass, replace
-from typing import Dict, Iterator, List, Optional, Sequence, Tuple
+from typing import Dict, List, Optional, Sequence, Tuple
 
-from ..language import read_specification, text_of, tokens, tree
+from ..language import text_of, tokens, tree
+from .deep_calls import deep_calls
 from .definitions import SPECIFICATION, Definition, Definitions
 from .hidden_events import Kind, Origin
 from .rewriting import Plan, Rewriter, TooMany
-from .source_places import source_places
+from .source_places import read_definitions
 
 # Fresh gates are handed down in each call, so that many of them cost time.
 MOST_GATES = 400
-# Nodes of a text are at most 500 deep, and a few calls go for each.
-DEEP = 20_000
 
 
 @dataclass(frozen=True)
@@ -34,10 +31,9 @@ class SecondText:
 def second_text(flat: str, source: Optional[str] = None) -> SecondText:
     """The second text of a flat text, with places in the specification's own text where that is there. `TooMany` where more
     gates would be wanted than `MOST_GATES`, `NoTree` and `NoGrammar` as in reading."""
-    specification = read_specification(flat)
+    definitions = read_definitions(flat, source)
+    specification = definitions.specification
     with deep_calls():
-        places = source_places(read_specification(source), specification) if source is not None else {}
-        definitions = Definitions(specification, places)
         stem = unused_stem(flat)
         try:
             made, slots = _rewritten(definitions, definitions.groups(), stem)
@@ -87,14 +83,3 @@ def unused_stem(text: str) -> str:
     while any(it.startswith(stem) and it[len(stem):].isdigit() for it in words):
         stem += "h"
     return stem
-
-
-@contextmanager
-def deep_calls() -> Iterator[None]:
-    """Room for as many calls in calls as a text is deep."""
-    before = sys.getrecursionlimit()
-    sys.setrecursionlimit(max(before, DEEP))
-    try:
-        yield
-    finally:
-        sys.setrecursionlimit(before)

@@ -5,11 +5,13 @@ after the other; where they have not, no places are told.
 """
 from __future__ import annotations
 
-from typing import Dict, Iterator, List, Tuple
+from functools import lru_cache
+from typing import Dict, Iterator, List, Optional, Tuple
 
-from ..language import tree, walk
+from ..language import read_specification, tree, walk
 from ..language.tokens import Place
-from .definitions import Definition
+from .deep_calls import deep_calls
+from .definitions import Definition, Definitions
 
 
 def source_places(source: tree.Specification, flat: tree.Specification) -> Dict[int, Place]:
@@ -17,15 +19,20 @@ def source_places(source: tree.Specification, flat: tree.Specification) -> Dict[
     places: Dict[int, Place] = {}
     for own, other in zip(_definitions(source), _definitions(flat)):
         places[other.heading.name.place.offset] = own.heading.name.place
-        pairs = list(zip(_marks(own.body), _marks(other.body)))
-        if [one[0] for one, _ in pairs] != [two[0] for _, two in pairs] or not _as_long(own, other):
-            continue
-        places.update((two[1].offset, one[1]) for one, two in pairs)
+        marks, others = list(_marks(own.body)), list(_marks(other.body))
+        if [it for it, _ in marks] == [it for it, _ in others]:
+            places.update((flat_place.offset, place) for (_, place), (_, flat_place) in zip(marks, others))
     return places
 
 
-def _as_long(own: Definition, other: Definition) -> bool:
-    return sum(1 for _ in _marks(own.body)) == sum(1 for _ in _marks(other.body))
+@lru_cache(2)
+def read_definitions(flat: str, source: Optional[str]) -> Definitions:
+    """The definitions of a flat text, with places in the specification's own text where that is there. `NoTree` and `NoGrammar`
+    as in reading."""
+    specification = read_specification(flat)
+    with deep_calls():
+        places = source_places(read_specification(source), specification) if source is not None else {}
+        return Definitions(specification, places)
 
 
 def _definitions(specification: tree.Specification) -> List[Definition]:
